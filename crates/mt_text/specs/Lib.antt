@@ -1,0 +1,4 @@
+pub mod Classes
+pub mod Refusals
+pub mod Bytes
+pub mod Lent
