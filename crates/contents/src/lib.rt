@@ -1,12 +1,18 @@
 //! The contents of fields: one file per format, each with what it accepts and what it means.
 
+mod amounts;
 mod dates;
 mod digits;
 mod times;
 
+pub use amounts::normal_amount;
+pub use amounts::read_amount;
+pub use amounts::write_normal_amount;
+pub use amounts::MAX_AMOUNT;
 pub use dates::read_date;
 pub use dates::read_month_day;
 pub use dates::Date;
 pub use dates::MonthDay;
+pub use digits::read_number;
 pub use times::read_time;
 pub use times::Time;
