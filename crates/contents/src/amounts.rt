@@ -8,6 +8,7 @@ ghost use Rattle.std.specs.declared.option.Option.the-variants.{Some, None};
 ghost use Rattle.std.specs.Options.{mapped};
 ghost use Rattle.mt_text.specs.Refusals.{told};
 ghost use Rattle.contents.specs.Amounts.{comma-fits, is-amount, comma, without-leading, without-trailing, amount-of, normal-of, normal-answer, normal-written};
+ghost use Rattle.contents.specs.AmountLaws.{Normal-laws};
 use crate::digits::place_of;
 use crate::digits::read_number;
 use mt_text::all_of;
@@ -104,6 +105,7 @@ pub fn normal_amount(text: &[u8]) -> Option<&[u8]>
 pub fn write_normal_amount(text: &[u8], buffer: &mut [u8]) -> Result<usize, Fault>
     ensures answer { λ r. ⌜ told r ≡ normal-answer (now (text .entry)) (now (buffer .entry)) ⌝ }
     ensures buffer { λ _. ⌜ now (buffer .exit) ≡ normal-written (now (text .entry)) (now (buffer .entry)) ⌝ }
+    ensures laws { λ _. ⌜ Normal-laws (now (text .entry)) ⌝ }
 {
     let normal = normal_amount(text).ok_or(Fault::Content { at: 0 })?;
     put_front(normal, buffer)

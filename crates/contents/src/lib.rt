@@ -3,6 +3,7 @@
 mod amounts;
 mod dates;
 mod digits;
+mod examples;
 mod times;
 
 pub use amounts::normal_amount;
@@ -14,5 +15,6 @@ pub use dates::read_month_day;
 pub use dates::Date;
 pub use dates::MonthDay;
 pub use digits::read_number;
+pub use examples::worked_examples;
 pub use times::read_time;
 pub use times::Time;

@@ -16,7 +16,8 @@ returns-in-Break-decimals c =
     let bs = c .args .text .now in
     let k = c .in-Continue-comma .comma in
     let t = told-comma bs k (c .in-Continue-comma .ensures tt) in
-    let e : None ≡ Some (number (decimals bs)) = c .in-Break-decimals .ensures tt ∙ read-decimals bs k (t .0) (t .1) in
+    let e = c .in-Break-decimals .ensures tt in
+    let r = read-decimals bs k (t .0) (t .1) in
     absurd (grind arith)
 
 sum : (c : After-unit-of-unit) → Sum (c .args .text .now) (c .in-Continue-whole .whole) (c .in-Continue-decimals .decimals) (c .unit-of-unit .result)
