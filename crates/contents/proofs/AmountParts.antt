@@ -68,9 +68,15 @@ parts bs h =
     let lt : comma bs < length bs = grind (arith, tells) in
     let l = length-drop (comma bs + 1) bs in
     record {
-      fits = p .0; front = q .0; back = q .1; split = place-splits 44 bs lt;
-      at = length-take-le (comma bs) bs (omega arith); behind = omega arith;
-      some = grind (arith, tells); few = grind (arith, tells); short = grind (arith, tells)
+      fits = p .0;
+      front = q .0;
+      back = q .1;
+      split = place-splits 44 bs lt;
+      at = length-take-le (comma bs) bs (omega arith);
+      behind = omega arith;
+      some = grind (arith, tells);
+      few = grind (arith, tells);
+      short = grind (arith, tells);
     }
 
 -- what `comma_of` tells where it tells a place
@@ -128,7 +134,7 @@ worth bs h =
     let p = parts bs h in
     record {
       whole-below = digits-below (whole bs) 14 (p .front) (omega (arith, p .at, p .behind, p .short));
-      decimals-below = by-length _ (length (decimals bs)) (p .few) (digits-below (decimals bs) (length (decimals bs)) (p .back) (omega arith))
+      decimals-below = by-length _ (length (decimals bs)) (p .few) (digits-below (decimals bs) (length (decimals bs)) (p .back) (omega arith));
     }
 
 -- the whole units, the decimals and what their last digit counts, as the code adds them up

@@ -88,8 +88,10 @@ module _ (a : ℕ) (h : digit a ≡ true) where
       let t : (48 + (a - 48)) ≡ a = omega (arith, low-a) in
       let p : 0 < a - 48 = grind (arith, tells) in
       record {
-        digits = grind (arith, tells); fewer = omega arith; same = refl;
-        told = sym (shortest-one (cents (a ∷ [])) (a - 48) (omega arith) p ∙ ap (λ d. d ∷ []) t)
+        digits = grind (arith, tells);
+        fewer = omega arith;
+        same = refl;
+        told = sym (shortest-one (cents (a ∷ [])) (a - 48) (omega arith) p ∙ ap (λ d. d ∷ []) t);
       }
 
   module _ (b : ℕ) (k : digit b ≡ true) where
@@ -104,8 +106,10 @@ module _ (a : ℕ) (h : digit a ≡ true) where
         let p : 0 < a - 48 = grind (arith, tells) in
         let c : cents (a ∷ b ∷ []) ≡ (a - 48) * 10 = omega arith in
         record {
-          digits = grind (arith, tells); fewer = omega arith; same = omega arith;
-          told = sym (shortest-one (cents (a ∷ b ∷ [])) (a - 48) c p ∙ ap (λ d. d ∷ []) t)
+          digits = grind (arith, tells);
+          fewer = omega arith;
+          same = omega arith;
+          told = sym (shortest-one (cents (a ∷ b ∷ [])) (a - 48) c p ∙ ap (λ d. d ∷ []) t);
         }
     two x false e f =
         let t : (48 + (a - 48)) ≡ a = omega (arith, low-a) in
@@ -115,10 +119,12 @@ module _ (a : ℕ) (h : digit a ≡ true) where
         let q : b - 48 < 10 = grind (arith, tells) in
         let c : cents (a ∷ b ∷ []) ≡ (a - 48) * 10 + (b - 48) = omega arith in
         let stays : Trailed (a ∷ b ∷ []) (a ∷ b ∷ []) =
-            record {
-              digits = grind (arith, tells); fewer = omega arith; same = refl;
-              told = sym (shortest-two (cents (a ∷ b ∷ [])) (a - 48) (b - 48) c p q ∙ (λ i. t i ∷ u i ∷ []))
-            } in
+        record {
+          digits = grind (arith, tells);
+          fewer = omega arith;
+          same = refl;
+          told = sym (shortest-two (cents (a ∷ b ∷ [])) (a - 48) (b - 48) c p q ∙ (λ i. t i ∷ u i ∷ []));
+        } in
         elim x as (λ x. Trailed (a ∷ b ∷ []) (cond (x && false) [] (a ∷ b ∷ []))) [ true ↦ stays | false ↦ stays ]
 
 trailed : (ds : List ℕ) → every digit ds ≡ true → length ds ≤ 2 → Trailed ds (without-trailing ds)
@@ -196,13 +202,13 @@ pub normal-laws : (bs : List ℕ) → Normal-laws bs
 normal-laws bs =
     record {
       keeps = λ h.
-        record {
-          worth = cond-true (is-amount (normal bs)) (Some (hundredths (normal bs))) None (normal-is-amount bs h) ∙ ap Some (normal-worth bs h);
-          again = same-worth (normal bs) bs (normal-is-amount bs h) h (normal-worth bs h)
-        };
+          record {
+            worth = cond-true (is-amount (normal bs)) (Some (hundredths (normal bs))) None (normal-is-amount bs h) ∙ ap Some (normal-worth bs h);
+            again = same-worth (normal bs) bs (normal-is-amount bs h) h (normal-worth bs h);
+          };
       tells = λ h other k.
-        record {
-          same-worth = same-worth bs other h k;
-          same-normal = λ e. sym (normal-worth bs h) ∙ ap hundredths e ∙ normal-worth other k
-        }
+          record {
+            same-worth = same-worth bs other h k;
+            same-normal = λ e. sym (normal-worth bs h) ∙ ap hundredths e ∙ normal-worth other k;
+          };
     }

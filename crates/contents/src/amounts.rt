@@ -11,10 +11,10 @@ ghost use Rattle.contents.specs.Amounts.{comma-fits, is-amount, comma, without
 ghost use Rattle.contents.specs.AmountLaws.{Normal-laws};
 use crate::digits::place_of;
 use crate::digits::read_number;
-use mt_text::all_of;
-use mt_text::put_front;
 use mt_text::Class;
 use mt_text::Fault;
+use mt_text::all_of;
+use mt_text::put_front;
 
 // The most characters that an amount has, its comma counted.
 pub const MAX_AMOUNT: usize = 15;

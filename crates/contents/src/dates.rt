@@ -28,13 +28,7 @@ fn last_day(in_leap_year: bool, month: u8) -> u8
     ensures { λ r. ⌜ r ≡ days-in «in_leap_year» month ⌝ }
 {
     match month {
-        2 => {
-            if in_leap_year {
-                29
-            } else {
-                28
-            }
-        }
+        2 => { if in_leap_year { 29 } else { 28 } }
         4 | 6 | 9 | 11 => 30,
         _ => 31,
     }

@@ -4,5 +4,4 @@ ghost use Rattle.contents.specs.Examples.{Worked-examples};
 // Does nothing: its contract is the statement.
 pub fn worked_examples()
     ensures { λ _. ⌜ Worked-examples ⌝ }
-{
-}
+{}

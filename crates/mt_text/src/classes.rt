@@ -5,11 +5,11 @@ ghost use Rattle.mt_text.specs.Classes.{digit, capital, alphanumeric, hex, pri
 // The five classes, each under its format letter in a comment.
 #[derive(Clone, Copy, PartialEq, Eq, Debug)]
 pub enum Class {
-    Digit,        // n
-    Capital,      // a
+    Digit, // n
+    Capital, // a
     Alphanumeric, // c
-    Hex,          // h
-    Printable,    // x
+    Hex, // h
+    Printable, // x
 }
 
 // n: a digit.

@@ -5,14 +5,14 @@ mod classes;
 mod fault;
 mod lent;
 
-pub use bytes::check_bytes;
 pub use bytes::MAX_TEXT;
+pub use bytes::check_bytes;
+pub use classes::Class;
 pub use classes::all_of;
 pub use classes::is_alphanumeric;
 pub use classes::is_capital;
 pub use classes::is_digit;
 pub use classes::is_hex;
 pub use classes::is_printable;
-pub use classes::Class;
 pub use fault::Fault;
 pub use lent::put_front;
