@@ -1,3 +1,4 @@
+pub mod Calendar
 pub mod Steps
 pub mod AmountParts
 pub mod NormalAmounts

@@ -1,7 +1,8 @@
 -- Days of the calendar, 1980 to 2079.
+use mathlib.Core.Path.{_≡_}
 use mathlib.Core.Bool.{Bool, true, cond, not, _&&_, _||_}
 use mathlib.Core.List.{List, [], _∷_}
-use Prim.Native.Nat.{ℕ, _+_, _%_}
+use Prim.Native.Nat.{ℕ, zero, suc, _+_, _-_, _%_}
 use lib.Dec.{eqb, leb, ltb}
 use lib.ListN.{length}
 use Rattle.std.specs.declared.option.Option.{Option}
@@ -42,3 +43,28 @@ month-day-of bs = cond (eqb (length bs) 4) (and-then (pair 0 bs) (λ m. and-then
 -- the earlier of two days: by year, then by month, then by day
 abbrev pub before : Date → Date → Bool
 before a b = ltb (a .year) (b .year) || (eqb (a .year) (b .year) && (ltb (a .month) (b .month) || (eqb (a .month) (b .month) && ltb (a .day) (b .day))))
+
+-- a day of the calendar from 1980 on
+abbrev pub is-real : Date → Bool
+is-real a = leb 1980 (a .year) && real-day (leap (a .year)) (a .month) (a .day)
+
+-- how many days a year has
+abbrev pub year-length : ℕ → ℕ
+year-length year = cond (leap year) 366 365
+
+-- the days of so many years from 1980 on, and of so many months from January on
+abbrev pub days-of-years : ℕ → ℕ
+days-of-years zero = 0
+days-of-years (suc n) = days-of-years n + year-length (1980 + n)
+
+abbrev pub days-of-months : Bool → ℕ → ℕ
+days-of-months leap-year zero = 0
+days-of-months leap-year (suc n) = days-of-months leap-year n + days-in leap-year (suc n)
+
+-- which day it is, counted from 1 on 1 January 1980
+abbrev pub day-count : Date → ℕ
+day-count a = days-of-years (a .year - 1980) + days-of-months (leap (a .year)) (a .month - 1) + a .day
+
+-- of two real days the earlier is the one with the lower count
+abbrev pub Compares-as-days : Date → Date → Type 0
+Compares-as-days a b = is-real a ≡ true → is-real b ≡ true → before a b ≡ ltb (day-count a) (day-count b)

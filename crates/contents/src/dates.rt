@@ -1,6 +1,6 @@
 //! Days: YYMMDD from 1980 to 2079, and MMDD of any year.
 ghost use mathlib.Core.Path.{_≡_};
-ghost use Rattle.contents.specs.Dates.{leap, days-in, real-day, full-year, date-of, month-day-of, before};
+ghost use Rattle.contents.specs.Dates.{leap, days-in, real-day, full-year, date-of, month-day-of, before, Compares-as-days};
 use crate::digits::pair_at;
 
 // A day of the calendar.
@@ -81,17 +81,25 @@ pub fn read_month_day(text: &[u8]) -> Option<MonthDay>
     }
 }
 
+// The order of the calendar: by year, then by month, then by day.
+fn comes_before(a: Date, b: Date) -> bool
+    ensures { λ r. ⌜ r ≡ before a b ⌝ }
+{
+    if a.year != b.year {
+        return a.year < b.year;
+    }
+    if a.month != b.month {
+        return a.month < b.month;
+    }
+    a.day < b.day
+}
+
 impl Date {
     // Whether this day comes before the other.
     pub fn is_before(self, other: Date) -> bool
-        ensures { λ r. ⌜ r ≡ before self other ⌝ }
+        ensures answer { λ r. ⌜ r ≡ before self other ⌝ }
+        ensures days { λ _. ⌜ Compares-as-days self other ⌝ }
     {
-        if self.year != other.year {
-            return self.year < other.year;
-        }
-        if self.month != other.month {
-            return self.month < other.month;
-        }
-        self.day < other.day
+        comes_before(self, other)
     }
 }
