@@ -15,4 +15,6 @@ pub use classes::is_digit;
 pub use classes::is_hex;
 pub use classes::is_printable;
 pub use fault::Fault;
+pub use fault::FaultDebug;
+pub use fault::FaultPartialEq;
 pub use lent::put_front;
