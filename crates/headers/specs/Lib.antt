@@ -1,0 +1,4 @@
+pub mod Parts
+pub mod Basic
+pub mod Application
+pub mod Trailer
