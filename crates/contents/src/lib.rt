@@ -18,6 +18,7 @@ pub use dates::MonthDayDebug;
 pub use dates::MonthDayPartialEq;
 pub use dates::read_date;
 pub use dates::read_month_day;
+pub use digits::place_of;
 pub use digits::read_number;
 pub use examples::worked_examples;
 pub use times::Time;

@@ -9,9 +9,9 @@ use crate::tags::Tag;
 use crate::tags::TagDebug;
 use crate::tags::TagEq;
 use crate::tags::TagPartialEq;
-use crate::tags::byte_at;
 use crate::tags::tag_at;
 use mt_text::Fault;
+use mt_text::byte_at;
 
 // A field: its tag, the offset of its first colon, and where its content stands.
 #[derive(Clone, Copy, PartialEq, Eq, Debug)]

@@ -1,8 +1,9 @@
 //! Tags: two digits and perhaps a capital, between colons.
 ghost use mathlib.Core.Path.{_≡_};
 ghost use Prim.Native.Nat.{_≤_};
-ghost use lib.ListN.{length, getD, drop};
+ghost use lib.ListN.{length, drop};
 ghost use Rattle.fields.specs.Tags.{tag-at, width};
+use mt_text::byte_at;
 use mt_text::is_capital;
 use mt_text::is_digit;
 
@@ -24,13 +25,6 @@ impl Tag {
             Some(_) => 5,
         }
     }
-}
-
-// The byte at a place, or 0 past the end: no rule asks for a 0.
-pub(crate) fn byte_at(text: &[u8], at: usize) -> u8
-    ensures { λ r. ⌜ r ≡ getD (now (text .entry)) at 0 ⌝ }
-{
-    if at < text.len() { text[at] } else { 0 }
 }
 
 // The tag with its colons that stands at a place.

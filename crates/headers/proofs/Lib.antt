@@ -1,1 +1,3 @@
 pub mod Types
+pub mod Starts
+pub mod Steps

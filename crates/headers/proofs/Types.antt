@@ -7,7 +7,7 @@ use Prim.Native.Nat.{ℕ, min, _+_, _-_, _*_, _≤_}
 use native.Mathlib.Omega.{arith}
 use lib.Dec.{eqb}
 use lib.ListN.{length, getD, drop, take}
-use Rattle.std.proofs.shelf.Lists.{drop-more, take-all}
+use Rattle.std.proofs.shelf.Lists.{drop-more, take-all, take-rest, drop-all}
 use Rattle.std.proofs.shelf.Tests.{and-parts, eqb-true, cases-lt}
 use Rattle.mt_text.specs.Classes.{digit, every}
 use Rattle.contents.specs.Digits.{number}
@@ -50,3 +50,12 @@ module _ (bs : List ℕ) (n : ℕ) (word : List ℕ) (rest : Bool) where
       let r = and-parts (every digit (part 4 7 bs)) rest (q .1) in
       let e = eqb-true (length bs) n (p .0) in
       record { long = omega arith; digits = r .0 }
+
+-- the rest of some bytes, as the code cuts it
+pub rest-from : (bs : List ℕ) (n s : ℕ) → s ≡ min (length bs) n → take (length bs - s) (drop s bs) ≡ drop n bs
+rest-from bs n s e =
+    take-rest bs s
+    ∙ ⊎-elim
+    (λ h. drop-all s bs (omega arith) ∙ sym (drop-all n bs (omega arith)))
+    (λ h. let same : s ≡ n = omega arith in ap (λ k. drop k bs) same)
+    (cases-lt (length bs) n)

@@ -2,3 +2,4 @@ pub mod Parts
 pub mod Basic
 pub mod Application
 pub mod Trailer
+pub mod User

@@ -1,11 +1,11 @@
--- The classes of bytes that the formats name by one letter. A byte is its number, 0 to 255.
+-- The classes of bytes, most of which the formats name by one letter. A byte is its number, 0 to 255.
 use mathlib.Core.Bool.{Bool, true, false, _&&_, _||_}
 use mathlib.Core.List.{List, [], _∷_}
 use Prim.Native.Nat.{ℕ}
 use lib.Chars.{codes}
 use lib.Dec.{leb, eqb}
 use Rattle.mt_text.specs.declared.classes.Class.{Class}
-use Rattle.mt_text.specs.declared.classes.Class.the-variants.{Digit, Capital, Alphanumeric, Hex, Printable}
+use Rattle.mt_text.specs.declared.classes.Class.the-variants.{Digit, Capital, Alphanumeric, Hex, Printable, LetterOrDigit}
 
 -- from the one number to the other, both included
 abbrev pub between : ℕ → ℕ → ℕ → Bool
@@ -45,6 +45,10 @@ hex b = digit b || between 65 70 b
 abbrev pub printable : ℕ → Bool
 printable b = capital b || (small b || (digit b || among (codes " /-?:().,'+") b))
 
+-- a letter, capital or small, or a digit
+abbrev pub letter-or-digit : ℕ → Bool
+letter-or-digit b = capital b || (small b || digit b)
+
 -- each class by its name
 abbrev pub holds : Class → ℕ → Bool
 holds Digit = digit
@@ -52,6 +56,7 @@ holds Capital = capital
 holds Alphanumeric = alphanumeric
 holds Hex = hex
 holds Printable = printable
+holds LetterOrDigit = letter-or-digit
 
 -- what a text may hold at all: x, CR, LF and the braces
 abbrev pub carried : ℕ → Bool

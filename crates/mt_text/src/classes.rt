@@ -1,8 +1,8 @@
 //! The classes of bytes that the formats name by one letter: n, a, c, h and x.
 ghost use mathlib.Core.Path.{_≡_};
-ghost use Rattle.mt_text.specs.Classes.{digit, capital, alphanumeric, hex, printable, every, holds};
+ghost use Rattle.mt_text.specs.Classes.{digit, capital, alphanumeric, hex, printable, letter-or-digit, every, holds};
 
-// The five classes, each under its format letter in a comment.
+// The classes, each with its format letter.
 #[derive(Clone, Copy, PartialEq, Eq, Debug)]
 pub enum Class {
     Digit, // n
@@ -10,6 +10,7 @@ pub enum Class {
     Alphanumeric, // c
     Hex, // h
     Printable, // x
+    LetterOrDigit, // no format letter: item 113 of block 3
 }
 
 // n: a digit.
@@ -51,6 +52,13 @@ pub fn is_printable(b: u8) -> bool
     }
 }
 
+// A letter, capital or small, or a digit.
+pub fn is_letter_or_digit(b: u8) -> bool
+    ensures { λ r. ⌜ r ≡ letter-or-digit b ⌝ }
+{
+    matches!(b, b'A'..=b'Z' | b'a'..=b'z' | b'0'..=b'9')
+}
+
 impl Class {
     // Whether the byte belongs to the class.
     pub fn has(self, b: u8) -> bool
@@ -62,6 +70,7 @@ impl Class {
             Class::Alphanumeric => is_alphanumeric(b),
             Class::Hex => is_hex(b),
             Class::Printable => is_printable(b),
+            Class::LetterOrDigit => is_letter_or_digit(b),
         }
     }
 }

@@ -6,6 +6,7 @@ mod fault;
 mod lent;
 
 pub use bytes::MAX_TEXT;
+pub use bytes::byte_at;
 pub use bytes::check_bytes;
 pub use classes::Class;
 pub use classes::all_of;
@@ -13,6 +14,7 @@ pub use classes::is_alphanumeric;
 pub use classes::is_capital;
 pub use classes::is_digit;
 pub use classes::is_hex;
+pub use classes::is_letter_or_digit;
 pub use classes::is_printable;
 pub use fault::Fault;
 pub use fault::FaultDebug;

@@ -1,0 +1,56 @@
+use mathlib.Core.Path.{_≡_, refl, sym, ap, _∙_}
+use mathlib.Core.Bool.{true, false}
+use mathlib.Core.List.{List}
+use Prim.Native.Nat.{ℕ, _+_, _-_, _≤_, _<_}
+use native.Mathlib.Omega.{arith}
+use lib.Chars.{codes}
+use lib.ListN.{length, take, drop}
+use Rattle.std.specs.declared.option.Option.the-variants.{Some, None}
+use Rattle.std.proofs.shelf.Lists.{take-rest, drop-all, length-drop}
+use Rattle.std.proofs.shelf.Tests.{cond-true, cond-false}
+use Rattle.headers.specs.Parts.{starts}
+use Rattle.headers.specs.declared.user.UserHeader.{UserHeader}
+use Rattle.headers.specs.User.{nothing, step-at, steps-within, user-at}
+use Rattle.headers.proofs.Starts.{starts-length}
+use Rattle.headers.proofs.Steps.{Sofar, start, one-more, at-close, at-fault, too-many}
+use Rattle.headers.proofs.user.read_user_header.Needs as need
+
+-- what follows the opening decides
+opened : (text : List ℕ) (at : ℕ) → true ≡ starts (codes "{3:") (take (length text - at) (drop at text)) → steps-within 5 text (at + 3) nothing ≡ user-at text at
+opened text at e = sym (cond-true (starts (codes "{3:") (drop at text)) _ None (ap (starts (codes "{3:")) (sym (take-rest text at)) ∙ sym e))
+
+-- a step over the rest of the text, as the code cuts it
+over-rest : (text : List ℕ) (i : ℕ) (h : UserHeader) → step-at i (take (length text - i) (drop i text)) h ≡ step-at i (drop i text) h
+over-rest text i h = ap (λ bs. step-at i bs h) (take-rest text i)
+
+pub returns-then-at-text : need.returns-then-at-text
+returns-then-at-text c =
+    let text = c .args .text .now in
+    let none = drop-all (c .args .at) text (omega arith) in
+    sym (cond-false (starts (codes "{3:") (drop (c .args .at) text)) _ None (ap (starts (codes "{3:")) none))
+
+pub returns-then-not-begins : need.returns-then-not-begins
+returns-then-not-begins c =
+    let text = c .args .text .now in
+    sym (cond-false (starts (codes "{3:") (drop (c .args .at) text)) _ None (ap (starts (codes "{3:")) (sym (take-rest text (c .args .at))) ∙ sym (c .if-not-begins .ensures tt)))
+
+pub returns-in-Break-more : need.returns-in-Break-more
+returns-in-Break-more c =
+    let text = c .args .text .now in
+    let l = c .loop-steps in
+    c .from-residual .ensures
+    ∙ at-fault text (c .args .at) (l .steps) (l .from) (l .header) (l .inv) (c .loop-steps-test .taken) (c .in-Break-more .ensures tt ∙ over-rest text (l .from) (l .header))
+    ∙ opened text (c .args .at) (c .if-not-begins .ensures tt)
+
+pub returns-in-Closed : need.returns-in-Closed
+returns-in-Closed c =
+    let text = c .args .text .now in
+    let l = c .loop-steps in
+    at-close text (c .args .at) (l .steps) (l .from) (l .header) (l .inv) (c .loop-steps-test .taken) (c .in-Closed .end) (ap Some (sym (c .in-Closed .is)) ∙ c .in-Continue-more .ensures tt ∙ over-rest text (l .from) (l .header))
+    ∙ opened text (c .args .at) (c .if-not-begins .ensures tt)
+
+pub loop-steps-again : need.loop-steps-again
+loop-steps-again c =
+    let text = c .args .text .now in
+    let l = c .loop-steps in
+    one-more text (c .args .at) (l .steps) (l .from) (l .header) (l .inv) (c .loop-steps-test .taken) (c .in-More .more) (c .in-More .next) (ap Some (sym (c .in-More .is)) ∙ c .in-Continue-more .ensures tt ∙ over-rest text (l .from) (l .header))
