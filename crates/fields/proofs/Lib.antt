@@ -1,5 +1,4 @@
 pub mod Steps
-pub mod Clips
 pub mod Bodies
 pub mod Trips
 pub mod Backs

@@ -12,6 +12,7 @@ use crate::tags::TagPartialEq;
 use crate::tags::tag_at;
 use mt_text::Fault;
 use mt_text::byte_at;
+use mt_text::part;
 
 // A field: its tag, the offset of its first colon, and where its content stands.
 #[derive(Clone, Copy, PartialEq, Eq, Debug)]
@@ -116,9 +117,7 @@ impl Field {
     pub fn content(self, text: &[u8]) -> &[u8]
         ensures { λ r. ⌜ now r ≡ shown (now (text .entry)) self .content ⌝ }
     {
-        let start = self.content_at.min(text.len());
-        let len = self.len.min(text.len() - start);
-        &text[start..start + len]
+        part(text, self.content_at, self.len)
     }
 }
 

@@ -15,7 +15,7 @@ use Rattle.contents.specs.Dates.{date-of}
 use Rattle.contents.specs.Times.{time-of}
 use Rattle.headers.specs.declared.application.Application.{Application}
 use Rattle.headers.specs.declared.application.Direction.the-variants.{Input, Output}
-use Rattle.headers.specs.Parts.{part, starts}
+use Rattle.headers.specs.Parts.{cut, starts}
 use Rattle.headers.specs.Basic.{is-address, is-sender}
 
 -- the end of a block 2: a priority, which is S, U or N, and '}' (125)
@@ -24,7 +24,7 @@ is-end bs = among (codes "SUN") (getD bs 0 0) && eqb (getD bs 1 0) 125
 
 -- input, its 21 bytes: opening, type 3!n, address, priority, '}' (125)
 abbrev pub is-input : List ℕ → Bool
-is-input bs = eqb (length bs) 21 && (starts (codes "{2:I") bs && (every digit (part 4 7 bs) && (is-address (part 7 19 bs) && is-end (part 19 21 bs))))
+is-input bs = eqb (length bs) 21 && (starts (codes "{2:I") bs && (every digit (cut 4 7 bs) && (is-address (cut 7 19 bs) && is-end (cut 19 21 bs))))
 
 -- a day, and a time of day
 unfoldable pub is-date : List ℕ → Bool
@@ -35,15 +35,15 @@ is-time bs = isSome (time-of bs)
 
 -- where an output text came from: time, date, sender, date, time
 abbrev pub is-origin : List ℕ → Bool
-is-origin bs = eqb (length bs) 42 && (is-time (part 0 4 bs) && (is-date (part 4 10 bs) && (is-sender (part 10 32 bs) && (is-date (part 32 38 bs) && is-time (part 38 42 bs)))))
+is-origin bs = eqb (length bs) 42 && (is-time (cut 0 4 bs) && (is-date (cut 4 10 bs) && (is-sender (cut 10 32 bs) && (is-date (cut 32 38 bs) && is-time (cut 38 42 bs)))))
 
 -- output, its 51 bytes: opening, type 3!n, origin, priority, '}'
 abbrev pub is-output : List ℕ → Bool
-is-output bs = eqb (length bs) 51 && (starts (codes "{2:O") bs && (every digit (part 4 7 bs) && (is-origin (part 7 49 bs) && is-end (part 49 51 bs))))
+is-output bs = eqb (length bs) 51 && (starts (codes "{2:O") bs && (every digit (cut 4 7 bs) && (is-origin (cut 7 49 bs) && is-end (cut 49 51 bs))))
 
 -- the type of the message: three digits in both directions
 abbrev pub type-of : List ℕ → ℕ
-type-of bs = number (part 4 7 bs)
+type-of bs = number (cut 4 7 bs)
 
 -- what stands at the front of the bytes behind block 1, if it is a block 2
 abbrev pub application-of : List ℕ → Option Application

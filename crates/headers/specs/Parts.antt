@@ -6,8 +6,8 @@ use lib.Dec.{eqb}
 use lib.ListN.{take, drop}
 
 -- the bytes from offset i up to offset j, which is not included
-abbrev pub part : ℕ → ℕ → List ℕ → List ℕ
-part i j bs = take (j - i) (drop i bs)
+abbrev pub cut : ℕ → ℕ → List ℕ → List ℕ
+cut i j bs = take (j - i) (drop i bs)
 
 -- whether the bytes begin with these
 abbrev pub starts : List ℕ → List ℕ → Bool

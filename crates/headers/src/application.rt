@@ -4,7 +4,7 @@ ghost use mathlib.Core.Bool.{true};
 ghost use Prim.Native.Nat.{_≤_};
 ghost use lib.ListN.{length};
 ghost use Rattle.mt_text.specs.Classes.{digit, every};
-ghost use Rattle.headers.specs.Parts.{part};
+ghost use Rattle.headers.specs.Parts.{cut};
 ghost use Rattle.headers.specs.Application.{is-end, is-input, is-date, is-time, is-origin, is-output, application-of, type-of};
 use crate::basic::is_address;
 use crate::basic::is_sender;
@@ -12,6 +12,7 @@ use contents::read_date;
 use contents::read_time;
 use mt_text::Class;
 use mt_text::all_of;
+use mt_text::part;
 
 // Whether a text goes to the settlement system or comes from it.
 #[derive(Clone, Copy, PartialEq, Eq, Debug)]
@@ -100,7 +101,7 @@ fn is_output_header(block: &[u8]) -> bool
 // The type of the message that a block 2 tells.
 fn type_of(block: &[u8]) -> u16
     requires long { ⌜ 7 ≤ length (now block) ⌝ }
-    requires digits { ⌜ every digit (part 4 7 (now block)) ≡ true ⌝ }
+    requires digits { ⌜ every digit (cut 4 7 (now block)) ≡ true ⌝ }
     ensures { λ r. ⌜ r ≡ type-of (now (block .entry)) ⌝ }
 {
     let hundreds = u16::from(block[4] - b'0');
@@ -113,7 +114,7 @@ fn type_of(block: &[u8]) -> u16
 pub fn read_application(bytes: &[u8]) -> Option<Application>
     ensures { λ r. ⌜ r ≡ application-of (now (bytes .entry)) ⌝ }
 {
-    let input = &bytes[0..bytes.len().min(INPUT_WIDTH)];
+    let input = part(bytes, 0, INPUT_WIDTH);
     if is_input_header(input) {
         return Some(Application {
             direction: Direction::Input,
@@ -121,7 +122,7 @@ pub fn read_application(bytes: &[u8]) -> Option<Application>
             width: INPUT_WIDTH,
         });
     }
-    let output = &bytes[0..bytes.len().min(OUTPUT_WIDTH)];
+    let output = part(bytes, 0, OUTPUT_WIDTH);
     if is_output_header(output) {
         return Some(Application {
             direction: Direction::Output,

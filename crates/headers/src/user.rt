@@ -8,6 +8,7 @@ use contents::place_of;
 use mt_text::Class;
 use mt_text::all_of;
 use mt_text::byte_at;
+use mt_text::rest;
 
 // Where a value stands in the text.
 #[derive(Clone, Copy, PartialEq, Eq, Debug)]
@@ -169,7 +170,7 @@ fn step_at(bytes: &[u8], at: usize, header: UserHeader) -> Option<Step>
         return closed(header, at + 1);
     }
     let item = item_of(bytes)?;
-    let value = &bytes[bytes.len().min(5)..bytes.len()];
+    let value = rest(bytes, 5);
     let len = place_of(b'}', value);
     if len >= value.len() {
         return None;
@@ -188,10 +189,7 @@ fn step_at(bytes: &[u8], at: usize, header: UserHeader) -> Option<Step>
 pub fn read_user_header(text: &[u8], at: usize) -> Option<UserBlock>
     ensures { λ r. ⌜ r ≡ user-at (now (text .entry)) at ⌝ }
 {
-    if at > text.len() {
-        return None;
-    }
-    if !begins(&text[at..text.len()], b"{3:") {
+    if !begins(rest(text, at), b"{3:") {
         return None;
     }
     let mut header = UserHeader {
@@ -204,7 +202,7 @@ pub fn read_user_header(text: &[u8], at: usize) -> Option<UserBlock>
     // at most four items and the closing brace
     let mut steps = 0usize;
     while steps < 5 {
-        match step_at(&text[from..text.len()], from, header)? {
+        match step_at(rest(text, from), from, header)? {
             Step::More { header: more, next } => {
                 header = more;
                 from = next;

@@ -4,6 +4,7 @@ mod bytes;
 mod classes;
 mod fault;
 mod lent;
+mod parts;
 
 pub use bytes::MAX_TEXT;
 pub use bytes::byte_at;
@@ -20,3 +21,5 @@ pub use fault::Fault;
 pub use fault::FaultDebug;
 pub use fault::FaultPartialEq;
 pub use lent::put_front;
+pub use parts::part;
+pub use parts::rest;

@@ -1,43 +1,55 @@
-use mathlib.Core.Path.{_≡_, sym, ap, subst, _∙_}
-use mathlib.Core.Bool.{true, false, cond}
+use mathlib.Core.Path.{_≡_, refl, sym, ap, _∙_}
+use mathlib.Core.Bool.{Bool, true, false, cond}
 use mathlib.Core.List.{List}
-use Prim.Native.Nat.{ℕ, min, _-_}
+use Prim.Native.Nat.{ℕ}
 use native.Mathlib.Omega.{arith}
 use lib.Chars.{codes}
-use lib.ListN.{length, take}
+use lib.ListN.{take}
+use Rattle.std.specs.declared.option.Option.{Option}
 use Rattle.std.specs.declared.option.Option.the-variants.{Some, None}
+use Rattle.headers.specs.declared.application.Application.{Application}
 use Rattle.headers.specs.declared.application.Direction.the-variants.{Input, Output}
 use Rattle.headers.specs.Application.{is-input, is-output, type-of, application-of}
-use Rattle.headers.proofs.Types.{front, typed}
+use Rattle.headers.proofs.Types.{typed}
 use Rattle.headers.proofs.application.read_application.Needs as need
 
 pub type-of-requires : need.type-of-requires
 type-of-requires c κs =
-    let t = typed (take (c .min .result - 0) (c .args .bytes .now)) 21 (codes "{2:I") _ (sym (c .if-is-input-header .ensures tt)) (omega arith) in
+    let t = typed (c .part-input .result .now) 21 (codes "{2:I") _ (sym (c .if-is-input-header .ensures tt)) (omega arith) in
     record { long = t .long; digits = t .digits }
 
 pub type-of-requires-then-is-output-header : need.type-of-requires-then-is-output-header
 type-of-requires-then-is-output-header c κs =
-    let t = typed (take (c .min-2 .result - 0) (c .args .bytes .now)) 51 (codes "{2:O") _ (sym (c .if-is-output-header .ensures tt)) (omega arith) in
+    let t = typed (c .part-output .result .now) 51 (codes "{2:O") _ (sym (c .if-is-output-header .ensures tt)) (omega arith) in
     record { long = t .long; digits = t .digits }
 
-module _ (bs : List ℕ) (i o : ℕ) (ei : i ≡ min (length bs) 21) (eo : o ≡ min (length bs) 51) where
-  -- the two ways past a block of an input text
-  output : (t : ℕ) → false ≡ is-input (take (i - 0) bs) → true ≡ is-output (take (o - 0) bs) → t ≡ type-of (take (o - 0) bs) → Some (record { direction = Output; «message_type» = t; width = 51 }) ≡ application-of bs
-  output t p q e =
-      let p′ = p ∙ ap is-input (front bs 21 i ei) in
-      let q′ = q ∙ ap is-output (front bs 51 o eo) in
-      let e′ = e ∙ ap type-of (front bs 51 o eo) in
-      λ k. cond (p′ k) (Some (record { direction = Input; «message_type» = type-of (take 21 bs); width = 21 })) (cond (q′ k) (Some (record { direction = Output; «message_type» = e′ k; width = 51 })) None)
+-- the three answers, by the tests of the two blocks i and o
+module _ (bs i o : List ℕ) (ei : i ≡ take 21 bs) (eo : o ≡ take 51 bs) where
+  abbrev answer : Bool → ℕ → Bool → ℕ → Option Application
+  answer x s y t = cond x (Some (record { direction = Input; «message_type» = s; width = 21 })) (cond y (Some (record { direction = Output; «message_type» = t; width = 51 })) None)
 
-  neither : false ≡ is-input (take (i - 0) bs) → false ≡ is-output (take (o - 0) bs) → None ≡ application-of bs
-  neither p q =
-      let p′ = p ∙ ap is-input (front bs 21 i ei) in
-      let q′ = q ∙ ap is-output (front bs 51 o eo) in
-      λ k. cond (p′ k) (Some (record { direction = Input; «message_type» = type-of (take 21 bs); width = 21 })) (cond (q′ k) (Some (record { direction = Output; «message_type» = type-of (take 51 bs); width = 51 })) None)
+  answered : (x y : Bool) (s t : ℕ) → x ≡ is-input i → y ≡ is-output o → s ≡ type-of i → t ≡ type-of o → answer x s y t ≡ application-of bs
+  answered x y s t ex ey es et =
+      let x′ = ex ∙ ap is-input ei in
+      let y′ = ey ∙ ap is-output eo in
+      let s′ = es ∙ ap type-of ei in
+      let t′ = et ∙ ap type-of eo in
+      λ k. answer (x′ k) (s′ k) (y′ k) (t′ k)
+
+pub returns-then-is-input-header : need.returns-then-is-input-header
+returns-then-is-input-header c =
+    let bs = c .args .bytes .now in
+    answered bs (c .part-input .result .now) (take 51 bs) (c .part-input .ensures) refl true (is-output (take 51 bs)) (c .type-of .result) (type-of (take 51 bs)) (c .if-is-input-header .ensures tt) refl (c .type-of .ensures) refl
 
 pub returns-then-is-output-header : need.returns-then-is-output-header
-returns-then-is-output-header c = output (c .args .bytes .now) (c .min .result) (c .min-2 .result) (c .min .ensures) (c .min-2 .ensures) (c .type-of-then-is-output-header .result) (c .if-is-input-header .ensures tt) (c .if-is-output-header .ensures tt) (c .type-of-then-is-output-header .ensures)
+returns-then-is-output-header c =
+    let bs = c .args .bytes .now in
+    let i = c .part-input .result .now in
+    answered bs i (c .part-output .result .now) (c .part-input .ensures) (c .part-output .ensures) false true (type-of i) (c .type-of-then-is-output-header .result) (c .if-is-input-header .ensures tt) (c .if-is-output-header .ensures tt) refl (c .type-of-then-is-output-header .ensures)
 
 pub returns : need.returns
-returns c = neither (c .args .bytes .now) (c .min .result) (c .min-2 .result) (c .min .ensures) (c .min-2 .ensures) (c .if-is-input-header .ensures tt) (c .if-is-output-header .ensures tt)
+returns c =
+    let bs = c .args .bytes .now in
+    let i = c .part-input .result .now in
+    let o = c .part-output .result .now in
+    answered bs i o (c .part-input .ensures) (c .part-output .ensures) false false (type-of i) (type-of o) (c .if-is-input-header .ensures tt) (c .if-is-output-header .ensures tt) refl refl
