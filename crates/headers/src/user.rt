@@ -39,7 +39,7 @@ pub struct UserBlock {
 
 // The four items.
 #[derive(Clone, Copy, PartialEq, Eq, Debug)]
-pub(crate) enum Item {
+pub enum Item {
     UserReference,
     ServiceType,
     Priority,
@@ -48,7 +48,7 @@ pub(crate) enum Item {
 
 // One step through block 3: an item, or its closing brace.
 #[derive(Clone, Copy, PartialEq, Eq, Debug)]
-pub(crate) enum Step {
+pub enum Step {
     More { header: UserHeader, next: usize },
     Closed { end: usize },
 }

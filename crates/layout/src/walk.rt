@@ -2,6 +2,7 @@
 ghost use mathlib.Core.Path.{_≡_};
 ghost use Rattle.mt_text.specs.Refusals.{told};
 ghost use Rattle.layout.specs.Walk.{application-at, opening-at, body-start, end-at, laid-out};
+ghost use Rattle.layout.specs.Render.{Round-trip};
 use fields::read_body;
 use headers::Application;
 use headers::Direction;
@@ -95,8 +96,8 @@ fn end_at(text: &[u8], at: usize) -> Result<(), Fault>
     Ok(())
 }
 
-// Lays out a text, or refuses it by 1, 2, 3 or 5.
-pub fn lay_out(text: &[u8]) -> Result<Layout, Fault>
+// The checks and blocks in their order.
+fn walk(text: &[u8]) -> Result<Layout, Fault>
     ensures { λ r. ⌜ told r ≡ laid-out (now (text .entry)) ⌝ }
 {
     check_bytes(text)?;
@@ -115,4 +116,13 @@ pub fn lay_out(text: &[u8]) -> Result<Layout, Fault>
         fields: lines.fields,
         hyphen: lines.hyphen,
     })
+}
+
+// Lays out a text, or refuses it by 1, 2, 3 or 5. A text that is written from well-formed parts is laid
+// out into these parts.
+pub fn lay_out(text: &[u8]) -> Result<Layout, Fault>
+    ensures answer { λ r. ⌜ told r ≡ laid-out (now (text .entry)) ⌝ }
+    ensures round_trip { λ _. ⌜ Round-trip ⌝ }
+{
+    walk(text)
 }
