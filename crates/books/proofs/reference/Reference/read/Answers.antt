@@ -1,0 +1,20 @@
+use mathlib.Core.Path.{_≡_, sym, _∙_}
+use Prim.Native.Nat.{min}
+use native.Mathlib.Omega.{arith}
+use lib.ListN.{length}
+use Rattle.std.proofs.shelf.Tests.{cond-false}
+use Rattle.books.proofs.Packing.{kept-in-parts, Made, made}
+use Rattle.books.proofs.reference.Reference.read.Needs as need
+use Rattle.books.proofs.reference.Reference.read.Needs.{then-len-lt8, else-len-lt8}
+
+pub returns-then-not-is-reference : need.returns-then-not-is-reference
+returns-then-not-is-reference c =
+    let f = sym (c .if-not-is-reference .ensures tt) in
+    record { value = sym (cond-false _ _ _ f); says = sym (cond-false _ _ _ f); gives = sym (cond-false _ _ _ f) }
+
+pub returns : need.returns
+returns c =
+    let bs = c .args .bytes .now in
+    let cut : c .if-len-lt8 .cut ≡ min (length bs) 8 = elim (c .if-len-lt8 .came) [ then-len-lt8 w ↦ omega (arith, w .cut-is) | else-len-lt8 w ↦ omega (arith, w .cut-is) ] in
+    let m = made bs _ (sym (c .if-not-is-reference .ensures tt)) (kept-in-parts bs (c .if-len-lt8 .cut) (c .packed .result) (c .packed-2 .result) cut (c .packed .ensures) (c .packed-2 .ensures)) in
+    record { value = m .value; says = m .says; gives = m .gives }
