@@ -11,7 +11,7 @@ use crate::keys::Key;
 use mt_text::Fault;
 
 // A record under its key.
-#[derive(Clone, Copy, PartialEq, Eq, Debug)]
+#[derive(Clone, Copy)]
 pub struct Entry<K, R> {
     pub key: K,
     pub record: R,

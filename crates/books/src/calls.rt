@@ -5,7 +5,7 @@ use crate::book::Book;
 use crate::keys::Key;
 
 // A call that may alter a book; the others leave it as it is.
-#[derive(Clone, Copy, PartialEq, Eq, Debug)]
+#[derive(Clone, Copy)]
 pub enum Call<K, R> {
     Put { account: usize, key: K, record: R },
     Remove { account: usize, key: K },

@@ -8,7 +8,7 @@ use crate::keys::Key;
 pub const LAST_NUMBER: u32 = 99_999;
 
 // The number of a statement, 1 to 99,999.
-#[derive(Clone, Copy, PartialEq, Eq, Debug)]
+#[derive(Clone, Copy)]
 pub struct Number {
     value: u32,
 }

@@ -2,12 +2,11 @@
 ghost use mathlib.Core.Path.{_≡_};
 ghost use Rattle.books.specs.States.{state-number, type-number};
 use contents::Date;
-use contents::DateDebug;
 use contents::DateEq;
 use contents::DatePartialEq;
 
 // The types of text that are orders.
-#[derive(Clone, Copy, PartialEq, Eq, Debug)]
+#[derive(Clone, Copy, PartialEq, Eq)]
 pub enum OrderType {
     Customer,
     Bank,
@@ -26,7 +25,7 @@ impl OrderType {
 }
 
 // How far an order has come.
-#[derive(Clone, Copy, PartialEq, Eq, Debug)]
+#[derive(Clone, Copy, PartialEq, Eq)]
 pub enum State {
     Sent,
     RecallAsked,
@@ -51,11 +50,11 @@ impl State {
 }
 
 // The three letters of a currency.
-#[derive(Clone, Copy, PartialEq, Eq, Debug)]
+#[derive(Clone, Copy, PartialEq, Eq)]
 pub struct Currency(pub u8, pub u8, pub u8);
 
 // An order, kept under its reference. The amount is in hundredths.
-#[derive(Clone, Copy, PartialEq, Eq, Debug)]
+#[derive(Clone, Copy, PartialEq, Eq)]
 pub struct Order {
     pub kind: OrderType,
     pub date: Date,
@@ -66,7 +65,7 @@ pub struct Order {
 
 // The closing of a statement, kept under its number. The amount is in hundredths, below 0 for a
 // debit.
-#[derive(Clone, Copy, PartialEq, Eq, Debug)]
+#[derive(Clone, Copy, PartialEq, Eq)]
 pub struct Statement {
     pub date: Date,
     pub currency: Currency,

@@ -17,7 +17,7 @@ pub const MAX_REFERENCE: usize = 16;
 
 // A reference: 1 to 16 bytes of x, eight to a word, the first in the lowest bits. Places past the
 // length hold zeros, so that equal bytes make equal words. Only `read` makes one.
-#[derive(Clone, Copy, PartialEq, Eq, Debug)]
+#[derive(Clone, Copy)]
 pub struct Reference {
     first: u64,
     second: u64,
