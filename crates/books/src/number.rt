@@ -37,6 +37,6 @@ pub impl Key for Number as NumberKey {
     ghost says = { λ n. n .value ∷ [] };
 
     fn same(&self, other: &Number) -> bool {
-        self.value == other.value
+        other.value == self.value
     }
 }

@@ -13,7 +13,11 @@ use books::Statement;
 use books::StatementPartialEq;
 use contents::Date;
 
-const DAY: Date = Date { year: 2026, month: 3, day: 14 };
+const DAY: Date = Date {
+    year: 2026,
+    month: 3,
+    day: 14,
+};
 
 pub trait SampleKey: Key {
     fn sample(n: u32) -> Option<Self>;
@@ -59,7 +63,13 @@ pub impl SampleKey for Number as SampleNumber {
 
 pub impl SampleRecord for Order as SampleOrder {
     fn sample(n: u32) -> Order {
-        Order { kind: OrderType::Customer, date: DAY, currency: Currency(b'D', b'E', b'N'), amount: u64::from(n), state: State::Sent }
+        Order {
+            kind: OrderType::Customer,
+            date: DAY,
+            currency: Currency(b'D', b'E', b'N'),
+            amount: u64::from(n),
+            state: State::Sent,
+        }
     }
 
     fn equals(&self, other: &Order) -> bool {
@@ -69,7 +79,11 @@ pub impl SampleRecord for Order as SampleOrder {
 
 pub impl SampleRecord for Statement as SampleStatement {
     fn sample(n: u32) -> Statement {
-        Statement { date: DAY, currency: Currency(b'E', b'U', b'R'), amount: 50 - i64::from(n) }
+        Statement {
+            date: DAY,
+            currency: Currency(b'E', b'U', b'R'),
+            amount: 50 - i64::from(n),
+        }
     }
 
     fn equals(&self, other: &Statement) -> bool {

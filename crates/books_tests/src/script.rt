@@ -31,7 +31,13 @@ pub enum Step {
     Room(usize, usize),
 }
 
-fn put_answers<K: SampleKey, R: SampleRecord, B: Book<Word = K, Record = R>>(book: &mut B, account: usize, key: u32, record: u32, done: bool) -> bool {
+fn put_answers<K: SampleKey, R: SampleRecord, B: Book<Word = K, Record = R>>(
+    book: &mut B,
+    account: usize,
+    key: u32,
+    record: u32,
+    done: bool,
+) -> bool {
     let Some(key) = K::sample(key) else {
         return false;
     };
@@ -42,19 +48,34 @@ fn put_answers<K: SampleKey, R: SampleRecord, B: Book<Word = K, Record = R>>(boo
     }
 }
 
-fn find_answers<K: SampleKey, R: SampleRecord, B: Book<Word = K, Record = R>>(book: &B, account: usize, key: u32) -> Option<R> {
+fn find_answers<K: SampleKey, R: SampleRecord, B: Book<Word = K, Record = R>>(
+    book: &B,
+    account: usize,
+    key: u32,
+) -> Option<R> {
     let key = K::sample(key)?;
     book.find(account, &key)
 }
 
-fn remove_answers<K: SampleKey, R: SampleRecord, B: Book<Word = K, Record = R>>(book: &mut B, account: usize, key: u32, removed: bool) -> bool {
+fn remove_answers<K: SampleKey, R: SampleRecord, B: Book<Word = K, Record = R>>(
+    book: &mut B,
+    account: usize,
+    key: u32,
+    removed: bool,
+) -> bool {
     let Some(key) = K::sample(key) else {
         return false;
     };
     book.remove(account, &key) == removed
 }
 
-fn nth_answers<K: SampleKey, R: SampleRecord, B: Book<Word = K, Record = R>>(book: &B, account: usize, place: usize, key: u32, record: u32) -> bool {
+fn nth_answers<K: SampleKey, R: SampleRecord, B: Book<Word = K, Record = R>>(
+    book: &B,
+    account: usize,
+    place: usize,
+    key: u32,
+    record: u32,
+) -> bool {
     let Some(key) = K::sample(key) else {
         return false;
     };
@@ -65,30 +86,42 @@ fn nth_answers<K: SampleKey, R: SampleRecord, B: Book<Word = K, Record = R>>(boo
 }
 
 // Makes the call, and says whether it answers as it must.
-fn answers<K: SampleKey, R: SampleRecord, B: Book<Word = K, Record = R>>(book: &mut B, step: Step) -> bool {
+fn answers<K: SampleKey, R: SampleRecord, B: Book<Word = K, Record = R>>(
+    book: &mut B,
+    step: Step,
+) -> bool {
     match step {
         Step::Put(account, key, record) => put_answers(book, account, key, record, true),
         Step::Full(account, key, record) => put_answers(book, account, key, record, false),
-        Step::Find(account, key, record) => match find_answers(book, account, key) {
+        Step::Find(account, key, record) => match find_answers(&*book, account, key) {
             Some(found) => found.equals(&R::sample(record)),
             None => false,
         },
-        Step::Lacks(account, key) => find_answers(book, account, key).is_none(),
+        Step::Lacks(account, key) => find_answers(&*book, account, key).is_none(),
         Step::Remove(account, key) => remove_answers(book, account, key, true),
         Step::Absent(account, key) => remove_answers(book, account, key, false),
-        Step::Count(account, count) => book.count(account) == count,
-        Step::Nth(account, place, key, record) => nth_answers(book, account, place, key, record),
-        Step::Past(account, place) => book.nth(account, place).is_none(),
-        Step::Room(account, room) => book.room(account) == room,
+        Step::Count(account, count) => (*book).count(account) == count,
+        Step::Nth(account, place, key, record) => nth_answers(&*book, account, place, key, record),
+        Step::Past(account, place) => (*book).nth(account, place).is_none(),
+        Step::Room(account, room) => (*book).room(account) == room,
     }
 }
 
+// Makes the call, and fails where it answers otherwise.
+pub fn expect<K: SampleKey, R: SampleRecord, B: Book<Word = K, Record = R>>(
+    book: &mut B,
+    step: Step,
+) -> Result<(), Fail> {
+    check(answers(book, step))
+}
+
 // Makes every call of the script.
-pub fn play<K: SampleKey, R: SampleRecord, B: Book<Word = K, Record = R>>(book: &mut B, script: &[Step]) -> Result<(), Fail> {
-    for i in 0..script.len() {
-        if !answers(book, script[i]) {
-            return Err(Fail::new("a step got another answer"));
-        }
+pub fn play<K: SampleKey, R: SampleRecord, B: Book<Word = K, Record = R>>(
+    book: &mut B,
+    script: &[Step],
+) -> Result<(), Fail> {
+    for step in script {
+        expect(book, *step)?;
     }
     Ok(())
 }
@@ -98,5 +131,8 @@ pub fn cell<K: SampleKey, R: SampleRecord>() -> Result<Entry<K, R>, Fail> {
     let Some(key) = K::sample(0) else {
         return Err(Fail::new("no sample"));
     };
-    Ok(Entry { key, record: R::sample(77) })
+    Ok(Entry {
+        key,
+        record: R::sample(77),
+    })
 }
