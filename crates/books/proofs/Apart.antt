@@ -1,9 +1,9 @@
 -- Every call keeps the keys of each account's entries different.
 use mathlib.Core.Path.{_≡_, refl, sym, ap, _∙_}
 use mathlib.Core.Bool.{Bool, true, false, not, cond, _&&_, _||_}
-use mathlib.Core.Logic.{_⊎_, inl, inr}
+use mathlib.Core.Logic.{inl, inr}
 use mathlib.Core.List.{List, [], _∷_, _++_}
-use Prim.Native.Nat.{ℕ, zero, suc, _+_, _<_, _≤_}
+use Prim.Native.Nat.{ℕ, suc, _+_, _<_, _≤_}
 use native.Mathlib.Omega.{arith}
 use lib.Dec.{eqb, ltb}
 use lib.ListN.{length, getD, set, drop}
@@ -16,7 +16,7 @@ use Rattle.books.specs.declared.calls.Call.the-variants.{Put, Remove}
 use Rattle.books.specs.Keys.{alike}
 use Rattle.books.specs.Lists.{place-of, has, put-list, without, at}
 use Rattle.books.specs.Calls.{left, left-by, apart, All-apart}
-use Rattle.books.proofs.Packing.{alike-self, alike-same}
+use Rattle.books.proofs.Packing.{alike-same}
 
 alike-flip : (xs ys : List ℕ) → alike xs ys ≡ alike ys xs
 alike-flip xs ys =
@@ -103,7 +103,7 @@ module _ {K R : Type 0} (says : K → List ℕ) where
           let p = or-parts (alike (says (x .key)) (says q)) (has says es q) (sym (has-cons x es q) ∙ h) in
           has-cons x (without says es k) q ∙ or-from _ _ (p .0) (more (p .1))
 
-  apart-without : (es : List (Entry K R)) (k : K) → apart says es ≡ true → apart says (without says es k) ≡ true
+  pub apart-without : (es : List (Entry K R)) (k : K) → apart says es ≡ true → apart says (without says es k) ≡ true
   apart-without [] k h = refl
   apart-without (x ∷ es) k h = by (apart-without es k) (alike (says (x .key)) (says k))
     where

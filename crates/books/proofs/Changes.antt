@@ -1,16 +1,16 @@
 -- What a change within one account's run leaves of each run.
-use mathlib.Core.Path.{_≡_, refl, sym, ap, subst, fun-ext, _∙_}
-use mathlib.Core.Logic.{_⊎_, inl, inr, ⊎-elim}
+use mathlib.Core.Path.{_≡_, sym, ap, fun-ext, _∙_}
+use mathlib.Core.Logic.{inl, inr}
 use mathlib.Core.List.{List, [], _∷_, _++_}
-use mathlib.Core.Bool.{Bool, true, false, cond}
-use Prim.Native.Nat.{ℕ, zero, suc, _+_, _-_, _*_, _/_, _%_, _<_, _≤_, min}
-use native.Mathlib.Nat.{add-mul, one-mul}
+use mathlib.Core.Bool.{true, false}
+use Prim.Native.Nat.{ℕ, suc, _+_, _-_, _*_, _/_, _%_, _<_, _≤_, min}
+use native.Mathlib.Nat.{add-mul}
 use native.Mathlib.Omega.{arith}
-use lib.Dec.{eqb, ltb}
+use lib.Dec.{ltb}
 use lib.ListN.{length, getD, set, take, drop}
 use Rattle.std.proofs.shelf.Bits.{mul-le, div-add-mod'}
 use lib.Seq.{take-set-lt}
-use Rattle.std.proofs.shelf.Lists.{drop-take, take-take, drop-drop, getD-set-same, getD-set-other, set-past, set-getD, length-set, length-take, length-drop, take-set-le, drop-set-lt, drop-set-add, take-more-set}
+use Rattle.std.proofs.shelf.Lists.{drop-take, take-take, drop-drop, getD-set-same, getD-set-other, set-getD, length-set, length-take, length-drop, take-set-le, drop-set-lt, drop-set-add, take-more-set}
 use Rattle.std.proofs.shelf.Tests.{cases-eq, cases-lt, cases-order, cond-true, cond-false, lt-ltb, le-ltb, eq-eqb, ne-eqb}
 use Rattle.std.specs.declared.result.Result.the-variants.{Ok}
 use Rattle.books.specs.declared.book.Entry.{Entry}

@@ -2,12 +2,11 @@
 use mathlib.Core.Path.{_≡_, refl, sym, ap, _∙_}
 use mathlib.Core.List.{List, [], _∷_, _++_, append-assoc}
 use mathlib.Core.Bool.{true, false, cond}
-use Prim.Native.Nat.{ℕ, zero, suc, _+_, _-_, _<_, _≤_}
-use native.Mathlib.Numerals.{add-one}
+use Prim.Native.Nat.{ℕ, suc, _+_, _-_, _<_, _≤_}
 use native.Mathlib.Omega.{arith}
 use lib.ListN.{length, getD, set, take, drop}
 use lib.Seq.{paste}
-use Rattle.std.proofs.shelf.Edits.{paste-none, paste-more, drop-paste, take-paste}
+use Rattle.std.proofs.shelf.Edits.{paste-more, drop-paste, take-paste}
 use Rattle.std.proofs.shelf.Lists.{getD-drop, length-drop, length-take-le, drop-take, take-take, drop-drop, take-append-le, drop-append-le}
 use Rattle.books.specs.declared.book.Entry.{Entry}
 use Rattle.books.specs.Keys.{alike}

@@ -1,14 +1,14 @@
 -- Bytes in words, and what references say.
 use mathlib.Core.Path.{_≡_, refl, sym, ap, subst, _∙_}
-use mathlib.Core.Bool.{Bool, true, false, cond, _&&_}
-use mathlib.Core.Logic.{_⊎_, inl, inr}
+use mathlib.Core.Bool.{true, false}
+use mathlib.Core.Logic.{inl, inr}
 use mathlib.Core.List.{List, [], _∷_, _++_}
 use Prim.Native.Nat.{ℕ, zero, suc, _+_, _-_, _*_, _/_, _%_, _^_, _<_, _≤_, min}
 use native.Mathlib.Nat.{pow-le-pow-right}
 use native.Mathlib.Omega.{arith}
 use lib.Dec.{eqb, lit<}
 use lib.ListN.{length, take, drop, getD}
-use Rattle.std.specs.declared.option.Option.the-variants.{Some, None}
+use Rattle.std.specs.declared.option.Option.the-variants.{Some}
 use Rattle.std.proofs.shelf.Bits.{pow-add, shr-shr, div-mul-add, mod-mul-add, mod-below}
 use Rattle.std.proofs.shelf.Lists.{at-drop-more, at-drop-all, take-all, drop-all, take-rest}
 use Rattle.std.proofs.shelf.Tests.{cases-bool, cases-eq, cases-lt, and-parts, and-from, eqb-true, eq-eqb, ne-eqb, cond-true, cond-false}
@@ -16,7 +16,7 @@ use Rattle.std.proofs.shelf.Ways.{tells}
 use Rattle.mt_text.specs.Classes.{every, printable}
 use Rattle.books.specs.declared.reference.Reference.{Reference}
 use Rattle.books.specs.Keys.{alike}
-use Rattle.books.specs.References.{is-reference, word-of, bytes-of, kept, spelled, is-kept, says-of, said, reference-of, if-reference}
+use Rattle.books.specs.References.{is-reference, word-of, bytes-of, kept, spelled, is-kept, says-of, reference-of, if-reference}
 
 -- ---- rows of numbers
 

@@ -24,7 +24,7 @@ pub const MAX_ROOM: usize = 64;
 #[derive(Drop)]
 pub struct Shares<'a, K, R> {
     cells: &'a mut [Entry<K, R>],
-    lens: [usize; 8],
+    lens: [usize; ACCOUNTS],
 }
 
 impl<'a, K: Key, R: Copy> Shares<'a, K, R> {

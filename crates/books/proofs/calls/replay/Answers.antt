@@ -1,7 +1,4 @@
 use mathlib.Core.Path.{_≡_, sym, ap, subst, _∙_}
-use Prim.Native.Nat.{ℕ}
-use mathlib.Core.List.{List}
-use Rattle.books.specs.declared.book.Entry.{Entry}
 use Rattle.books.specs.Calls.{left, left-by, All-apart}
 use Rattle.books.proofs.Apart.{left-by-apart, left-by-more, left-by-all}
 use Rattle.books.proofs.calls.replay.Needs as need

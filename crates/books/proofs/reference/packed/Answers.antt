@@ -1,6 +1,6 @@
 use Prim.Native.Nat.{_-_, _<_}
 use native.Mathlib.Omega.{arith}
-use lib.ListN.{length, getD}
+use lib.ListN.{length}
 use Rattle.books.proofs.Packing.{none-packed, packed-more, below-word}
 use Rattle.books.proofs.reference.packed.Needs as need
 

@@ -1,9 +1,9 @@
-use mathlib.Core.Path.{_≡_, sym, _∙_}
+use mathlib.Core.Path.{_≡_, sym}
 use Prim.Native.Nat.{min}
 use native.Mathlib.Omega.{arith}
 use lib.ListN.{length}
 use Rattle.std.proofs.shelf.Tests.{cond-false}
-use Rattle.books.proofs.Packing.{kept-in-parts, Made, made}
+use Rattle.books.proofs.Packing.{kept-in-parts, made}
 use Rattle.books.proofs.reference.Reference.read.Needs as need
 use Rattle.books.proofs.reference.Reference.read.Needs.{then-len-lt8, else-len-lt8}
 

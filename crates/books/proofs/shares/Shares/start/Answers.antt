@@ -1,7 +1,6 @@
-use mathlib.Core.Path.{ap, subst, sym}
-use Prim.Native.Nat.{ℕ, _+_, _*_, _≤_}
+use mathlib.Core.Path.{ap}
+use Prim.Native.Nat.{_*_}
 use lib.ListN.{length}
-use Rattle.books.specs.Runs.{share-of}
 use Rattle.books.proofs.Changes.{within}
 use Rattle.books.proofs.shares.Shares.start.Needs as need
 

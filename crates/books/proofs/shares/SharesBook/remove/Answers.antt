@@ -1,12 +1,9 @@
 use mathlib.Core.Path.{_≡_, refl, sym, ap, _∙_}
-use Prim.Native.Nat.{ℕ, _+_, _-_, _*_, _<_, _≤_}
-use native.Mathlib.Omega.{arith}
+use Prim.Native.Nat.{_+_, _-_}
 use borrow.Author.Needs.{needs}
-use lib.ListN.{length, getD, set, drop}
-use Rattle.std.proofs.shelf.Edits.{length-paste}
-use Rattle.std.proofs.shelf.Lists.{length-drop}
+use lib.ListN.{length, set}
 use Rattle.books.specs.Lists.{place-of}
-use Rattle.books.specs.Runs.{share-of, room-of, run}
+use Rattle.books.specs.Runs.{room-of, run}
 use Rattle.books.proofs.Changes.{remove-has, remove-lacks}
 use Rattle.books.proofs.shares.SharesBook.remove.Needs as need
 
