@@ -16,9 +16,9 @@ use Rattle.std.specs.declared.result.Result.the-variants.{Ok}
 use Rattle.books.specs.declared.book.Entry.{Entry}
 use Rattle.mt_text.specs.Refusals.{refused}
 use Rattle.books.specs.Lists.{at, place-of, has, put-answer, put-list, without}
-use Rattle.books.specs.Runs.{share-of, size-of, room-of, run}
+use Rattle.books.specs.Runs.{share-of, size-of, room-of, run, closed}
 use Rattle.std.proofs.shelf.Edits.{length-paste}
-use Rattle.books.proofs.Gaps.{closed, closed-before, closed-after, closed-row, without-at, without-none}
+use Rattle.books.proofs.Gaps.{closed-before, closed-after, closed-row, without-at, without-none}
 
 -- each account's run lies within the cells
 pub within : (n a : ℕ) → a < 8 → a * share-of n + share-of n ≤ n
@@ -116,25 +116,25 @@ module _ {K R : Type 0} (says : K → List ℕ) (xs : List (Entry K R)) (lens : 
   lacks-it h = let l = row-length in le-ltb _ _ (omega arith)
 
   -- a put of a key that the account has
-  pub put-has : (r : R) (i : ℕ) → i ≡ a * share-of (length xs) + p → p < len
+  pub put-has : (r : R) {i : ℕ} (ys : List (Entry K R)) → ys ≡ set xs i (record { key = k; «record» = r }) → i ≡ a * share-of (length xs) + p → p < len
       → (put-answer says (room-of (length xs) a) (run xs lens a) k ≡ Ok tt)
-      × (run (set xs i (record { key = k; «record» = r })) lens ≡ at a (put-list says (room-of (length xs) a) (run xs lens a) k r) (run xs lens))
-  put-has r i ei h =
+      × (run ys lens ≡ at a (put-list says (room-of (length xs) a) (run xs lens a) k r) (run xs lens))
+  put-has r {i} ys stored ei h =
       let v : Entry K R = record { key = k; «record» = r } in
       let s = share-of (length xs) in
       let own : take (min (getD lens a 0) s) (drop (a * s) (set xs (a * s + p) v)) ≡ put-list says (room-of (length xs) a) (run xs lens a) k r =
       ap (λ n. take n (drop (a * s) (set xs (a * s + p) v))) (sym el) ∙ ap (take len) (drop-set-add (a * s) xs p v) ∙ take-set-lt len (drop (a * s) xs) p v h ∙ ap (λ l. set l p v) (sym is-row)
       ∙ ap (λ q. set (run xs lens a) q v) spot ∙ sym (cond-true _ _ _ (has-it h)) in (
         cond-true _ _ _ (has-it h),
-        ap (λ j. run (set xs j v) lens) ei ∙ ap (run (set xs (a * s + p) v)) (sym (set-getD lens a 0))
+        ap (λ l. run l lens) stored ∙ ap (λ j. run (set xs j v) lens) ei ∙ ap (run (set xs (a * s + p) v)) (sym (set-getD lens a 0))
             ∙ run-changed xs (set xs (a * s + p) v) lens a (getD lens a 0) _ eight lt (length-set xs (a * s + p) v) (take-set-le (a * s) xs (a * s + p) v (omega arith)) (drop-set-lt (a * s + s) xs (a * s + p) v (omega arith)) own,
       )
 
   -- a put of a new key, where there is room
-  pub put-new : (r : R) (i : ℕ) → i ≡ a * share-of (length xs) + len → len ≤ p → len < share-of (length xs)
+  pub put-new : (r : R) {i : ℕ} (ys : List (Entry K R)) → ys ≡ set xs i (record { key = k; «record» = r }) → i ≡ a * share-of (length xs) + len → len ≤ p → len < share-of (length xs)
       → (put-answer says (room-of (length xs) a) (run xs lens a) k ≡ Ok tt)
-      × (run (set xs i (record { key = k; «record» = r })) (set lens a (len + 1)) ≡ at a (put-list says (room-of (length xs) a) (run xs lens a) k r) (run xs lens))
-  put-new r i ei h room =
+      × (run ys (set lens a (len + 1)) ≡ at a (put-list says (room-of (length xs) a) (run xs lens a) k r) (run xs lens))
+  put-new r {i} ys stored ei h room =
       let v : Entry K R = record { key = k; «record» = r } in
       let s = share-of (length xs) in
       let w = within (length xs) a lt in
@@ -147,7 +147,8 @@ module _ {K R : Type 0} (says : K → List ℕ) (xs : List (Entry K R)) (lens : 
       ap (λ n. take n (drop (a * s) (set xs (a * s + len) v))) low ∙ ap (take (len + 1)) (drop-set-add (a * s) xs len v) ∙ take-more-set (drop (a * s) xs) len v deep ∙ ap (λ l. l ++ v ∷ []) (sym is-row)
       ∙ sym (cond-false _ _ _ (lacks-it h) ∙ cond-true _ _ _ fits) in (
         cond-false _ _ _ (lacks-it h) ∙ cond-true _ _ _ fits,
-        ap (λ j. run (set xs j v) (set lens a (len + 1))) ei
+        ap (λ l. run l (set lens a (len + 1))) stored
+            ∙ ap (λ j. run (set xs j v) (set lens a (len + 1))) ei
             ∙ run-changed xs (set xs (a * s + len) v) lens a (len + 1) _ eight lt (length-set xs (a * s + len) v) (take-set-le (a * s) xs (a * s + len) v (omega arith)) (drop-set-lt (a * s + s) xs (a * s + len) v (omega arith)) own,
       )
 
@@ -165,10 +166,11 @@ module _ {K R : Type 0} (says : K → List ℕ) (xs : List (Entry K R)) (lens : 
       )
 
   -- a removal of a key that the account has
-  pub remove-has : (gap n : ℕ) → gap ≡ a * share-of (length xs) + p → n ≡ len - p - 1 → p < len
+  pub remove-has : {gap n : ℕ} (ys : List (Entry K R)) → ys ≡ closed xs gap n → gap ≡ a * share-of (length xs) + p → n ≡ len - p - 1 → p < len
       → (has says (run xs lens a) k ≡ true)
-      × (run (closed xs gap n) (set lens a (len - 1)) ≡ at a (without says (run xs lens a) k) (run xs lens))
-  remove-has gap n eg en h =
+      × (run ys (set lens a (len - 1)) ≡ at a (without says (run xs lens a) k) (run xs lens))
+  unfolding closed
+  remove-has {gap} {n} ys moved eg en h =
       let s = share-of (length xs) in
       let w = within (length xs) a lt in
       let l = row-length in
@@ -180,7 +182,8 @@ module _ {K R : Type 0} (says : K → List ℕ) (xs : List (Entry K R)) (lens : 
       ∙ sym (without-at says (run xs lens a) k (omega arith)) in
       let long : length (closed xs (a * s + p) n) ≡ length xs = length-paste xs (a * s + p) (drop (a * s + p + 1) xs) n (omega arith) (simp length-drop (omega arith)) in (
         has-it h,
-        ap (λ j. run (closed xs j n) (set lens a (len - 1))) eg
+        ap (λ l. run l (set lens a (len - 1))) moved
+            ∙ ap (λ j. run (closed xs j n) (set lens a (len - 1))) eg
             ∙ run-changed xs (closed xs (a * s + p) n) lens a (len - 1) _ eight lt long (closed-before xs (a * s + p) (a * s) n (omega arith) (omega arith)) (closed-after xs (a * s + p) (a * s + s) n (omega arith) (omega arith)) own,
       )
 

@@ -2,10 +2,9 @@
 ghost use mathlib.Core.List.{[]};
 ghost use mathlib.Core.Path.{_≡_};
 ghost use Prim.Native.Nat.{ℕ, _*_, _+_, _<_, _≤_};
-ghost use lib.ListN.{length, getD, set, drop};
-ghost use lib.Seq.{paste};
+ghost use lib.ListN.{length, set};
 ghost use denote.Ref.{now};
-ghost use Rattle.books.specs.Runs.{share-of, size-of, room-of, run, run-fits, room-ends};
+ghost use Rattle.books.specs.Runs.{share-of, size-of, room-of, run, closed, run-fits, room-ends};
 use crate::book::Book;
 use crate::book::Entry;
 use crate::keys::Key;
@@ -35,7 +34,7 @@ impl<'a, K: Key, R: Copy> Shares<'a, K, R> {
     {
         Shares {
             cells,
-            lens: [0; 8],
+            lens: [0; ACCOUNTS],
         }
     }
 
@@ -78,7 +77,7 @@ impl<'a, K: Key, R: Copy> Shares<'a, K, R> {
     fn close(&mut self, gap: usize, count: usize)
         requires { ⌜ gap + count < length (now (now self .cells)) ⌝ }
         ensures size { λ _. ⌜ length (now (now (self .exit) .cells)) ≡ length (now (now (self .entry) .cells)) ⌝ }
-        ensures cells { λ _. ⌜ now (now (self .exit) .cells) ≡ paste (now (now (self .entry) .cells)) gap (drop (gap + 1) (now (now (self .entry) .cells))) count ⌝ }
+        ensures cells { λ _. ⌜ now (now (self .exit) .cells) ≡ closed (now (now (self .entry) .cells)) gap count ⌝ }
         ensures lens { λ _. ⌜ now (self .exit) .lens ≡ now (self .entry) .lens ⌝ }
     {
         for i in 0..count {

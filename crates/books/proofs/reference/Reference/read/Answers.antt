@@ -1,8 +1,10 @@
 use mathlib.Core.Path.{_≡_, sym}
-use Prim.Native.Nat.{min}
+use Prim.Native.Nat.{_-_, min}
 use native.Mathlib.Omega.{arith}
-use lib.ListN.{length}
+use borrow.Author.Needs.{needs}
+use lib.ListN.{length, take, drop}
 use Rattle.std.proofs.shelf.Tests.{cond-false}
+use Rattle.books.specs.References.{word-of}
 use Rattle.books.proofs.Packing.{kept-in-parts, made}
 use Rattle.books.proofs.reference.Reference.read.Needs as need
 use Rattle.books.proofs.reference.Reference.read.Needs.{then-len-lt8, else-len-lt8}
@@ -16,5 +18,7 @@ pub returns : need.returns
 returns c =
     let bs = c .args .bytes .now in
     let cut : c .if-len-lt8 .cut ≡ min (length bs) 8 = elim (c .if-len-lt8 .came) [ then-len-lt8 w ↦ omega (arith, w .cut-is) | else-len-lt8 w ↦ omega (arith, w .cut-is) ] in
-    let m = made bs _ (sym (c .if-not-is-reference .ensures tt)) (kept-in-parts bs (c .if-len-lt8 .cut) (c .packed .result) (c .packed-2 .result) cut (c .packed .ensures) (c .packed-2 .ensures)) in
+    let first : c .packed .result ≡ word-of (take (c .if-len-lt8 .cut - 0) bs) = search needs in
+    let second : c .packed-2 .result ≡ word-of (take (length bs - c .if-len-lt8 .cut) (drop (c .if-len-lt8 .cut) bs)) = search needs in
+    let m = made bs _ (sym (c .if-not-is-reference .ensures tt)) (kept-in-parts bs (c .if-len-lt8 .cut) (c .packed .result) (c .packed-2 .result) cut first second) in
     record { value = m .value; says = m .says; gives = m .gives }

@@ -1,3 +1,5 @@
+use mathlib.Core.Path.{_≡_}
+use borrow.Author.Needs.{needs}
 use Rattle.books.proofs.Packing.{same-by-length, other-first, other-second}
 use Rattle.books.proofs.reference.ReferenceKey.same.Needs as need
 use Rattle.books.proofs.reference.ReferenceKey.same.Needs.{then-self-other·by·then-self-other, then-self-other·by·else-self-other·then-self-other-2}
@@ -7,9 +9,14 @@ returns-then-self-other c =
     let a = c .args .self .now in
     let b = c .args .other .now in
     elim (c .then-self-other .came) [
-      | then-self-other·by·then-self-other w ↦ other-first a b (w .if-self-other .taken)
-      | then-self-other·by·else-self-other·then-self-other-2 w ↦ other-second a b (w .if-self-other-2 .taken)
+      | then-self-other·by·then-self-other w ↦ other-first a b (search needs)
+      | then-self-other·by·else-self-other·then-self-other-2 w ↦ other-second a b (search needs)
     ]
 
 pub returns : need.returns
-returns c = same-by-length (c .args .self .now) (c .args .other .now) (c .if-self-other .left) (c .if-self-other-2 .left)
+returns c =
+    let a = c .args .self .now in
+    let b = c .args .other .now in
+    let first : a .first ≡ b .first = search needs in
+    let second : a .second ≡ b .second = search needs in
+    same-by-length a b first second

@@ -16,10 +16,10 @@ returns-then-place-len g c =
     let eight : length (s .lens) ≡ 8 = search needs in
     let spot = c .seek-place .ensures ∙ ap (λ l. place-of says l (c .args .key)) (c .row .ensures) in
     let put = put-has says (s .cells .now) (s .lens) (c .args .account) (c .seek-place .result) (c .size-len .result) (c .args .key) (c .size-len .ensures) eight (c .if-account-ge-ACCOUNTS .left) spot
-    (c .args .record) _ (ap (λ n. n + c .seek-place .result) (c .start-from .ensures .value)) (c .if-place-len .taken) in
+    (c .args .record) _ (c .store .ensures .cells) (omega (arith, c .start-from .ensures .value)) (c .if-place-len .taken) in
     record {
       answer = sym (put .0);
-      lists = ap (λ l. run (c .store .last .self .cells .now) l) (c .store .ensures .lens) ∙ ap (λ l. run l (s .lens)) (c .store .ensures .cells) ∙ put .1;
+      lists = ap (λ l. run (c .store .last .self .cells .now) l) (c .store .ensures .lens) ∙ put .1;
       rooms = ap (λ l. room-of (length l)) (c .store .ensures .cells) ∙ ap room-of (length-set _ _ _);
     }
 
@@ -42,10 +42,10 @@ returns g c =
     let spot = c .seek-place .ensures ∙ ap (λ l. place-of says l (c .args .key)) (c .row .ensures) in
     let room : c .size-len .result < share-of (length (s .cells .now)) = omega (arith, c .share-share .ensures, c .if-len-share .left) in
     let put = put-new says (s .cells .now) (s .lens) (c .args .account) (c .seek-place .result) (c .size-len .result) (c .args .key) (c .size-len .ensures) eight (c .if-account-ge-ACCOUNTS .left) spot
-    (c .args .record) _ (ap (λ n. n + c .size-len .result) (c .start-from .ensures .value)) (c .if-place-len .left) room in
+    (c .args .record) _ (c .store-2 .ensures .cells) (omega (arith, c .start-from .ensures .value)) (c .if-place-len .left) room in
     let more = c .size-len .result + 1 in
     record {
       answer = sym (put .0);
-      lists = ap (λ l. run (c .store-2 .last .self .cells .now) (set l (c .args .account) more)) (c .store-2 .ensures .lens) ∙ ap (λ l. run l (set (s .lens) (c .args .account) more)) (c .store-2 .ensures .cells) ∙ put .1;
+      lists = ap (λ l. run (c .store-2 .last .self .cells .now) (set l (c .args .account) more)) (c .store-2 .ensures .lens) ∙ put .1;
       rooms = ap (λ l. room-of (length l)) (c .store-2 .ensures .cells) ∙ ap room-of (length-set _ _ _);
     }

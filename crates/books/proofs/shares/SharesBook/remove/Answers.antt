@@ -1,5 +1,6 @@
 use mathlib.Core.Path.{_≡_, refl, sym, ap, _∙_}
-use Prim.Native.Nat.{_+_, _-_}
+use Prim.Native.Nat.{_-_}
+use native.Mathlib.Omega.{arith}
 use borrow.Author.Needs.{needs}
 use lib.ListN.{length, set}
 use Rattle.books.specs.Lists.{place-of}
@@ -23,10 +24,10 @@ returns g c =
     let eight : length (s .lens) ≡ 8 = search needs in
     let spot = c .seek-place .ensures ∙ ap (λ l. place-of says l (c .args .key .now)) (c .row .ensures) in
     let out = remove-has says (s .cells .now) (s .lens) (c .args .account) (c .seek-place .result) (c .size-len .result) (c .args .key .now) (c .size-len .ensures) eight (c .if-account-ge-ACCOUNTS .left) spot
-    (c .start-from .result + c .seek-place .result) _ (ap (λ n. n + c .seek-place .result) (c .start-from .ensures .value)) refl (c .if-place-len .left) in
+    _ (c .close .ensures .cells) (omega (arith, c .start-from .ensures .value)) (omega arith) (c .if-place-len .left) in
     let less = c .size-len .result - 1 in
     record {
       answer = sym (out .0);
-      lists = ap (λ l. run (c .close .last .self .cells .now) (set l (c .args .account) less)) (c .close .ensures .lens) ∙ ap (λ l. run l (set (s .lens) (c .args .account) less)) (c .close .ensures .cells) ∙ out .1;
+      lists = ap (λ l. run (c .close .last .self .cells .now) (set l (c .args .account) less)) (c .close .ensures .lens) ∙ out .1;
       rooms = ap room-of (c .close .ensures .size);
     }
