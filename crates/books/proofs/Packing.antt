@@ -169,13 +169,13 @@ spelled-cut r end e =
     ]
 
 -- what `read` answers: the reference of the bytes, which says and gives back just them
-pub record Made (bs : List ℕ) (r : Reference) : Type 0 where
+pub record Read-answer (bs : List ℕ) (r : Reference) : Type 0 where
   pub value : Some r ≡ reference-of bs
   pub says : Some (says-of r) ≡ if-reference bs
   pub gives : Some (spelled r) ≡ if-reference bs
 
-pub made : (bs : List ℕ) (r : Reference) → is-reference bs ≡ true → r ≡ kept bs → Made bs r
-made bs r h e = record {
+pub read-of : (bs : List ℕ) (r : Reference) → is-reference bs ≡ true → r ≡ kept bs → Read-answer bs r
+read-of bs r h e = record {
   value = ap Some e ∙ sym (cond-true _ _ _ h);
   says = ap (λ x. Some (says-of x)) e ∙ ap Some (says-kept bs h) ∙ sym (cond-true _ _ _ h);
   gives = ap (λ x. Some (spelled x)) e ∙ ap Some (spelled-kept bs h) ∙ sym (cond-true _ _ _ h);

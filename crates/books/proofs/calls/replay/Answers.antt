@@ -1,4 +1,4 @@
-use mathlib.Core.Path.{_≡_, sym, ap, subst, _∙_}
+use mathlib.Core.Path.{_≡_, refl, sym, ap, subst, _∙_}
 use Rattle.books.specs.Calls.{left, left-by, All-apart}
 use Rattle.books.proofs.Apart.{left-by-apart, left-by-more, left-by-all}
 use Rattle.books.proofs.calls.replay.Needs as need
@@ -20,8 +20,10 @@ returns g c =
     let start = g .B·Book .lists (c .args .book .now) in
     let all : g .B·Book .lists (c .loop-call .book) ≡ left-by says rooms calls start =
     sym (left-by-all says rooms calls (c .loop-call .call-index) (g .B·Book .lists (c .loop-call .book)) (c .loop-call-test .left)) ∙ c .loop-call .inv .0 in
+    let keep : All-apart says start → All-apart says (g .B·Book .lists (c .loop-call .book)) = λ h. subst (All-apart says) (sym all) (left-by-apart says rooms calls start h) in
     record {
       lists = all;
       rooms = c .loop-call .inv .1;
-      apart = λ h. subst (All-apart says) (sym all) (left-by-apart says rooms calls start h);
+      apart = keep;
+      fresh = λ e. keep (subst (All-apart says) (sym e) (λ a. refl));
     }

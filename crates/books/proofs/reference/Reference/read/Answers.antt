@@ -5,7 +5,7 @@ use borrow.Author.Needs.{needs}
 use lib.ListN.{length, take, drop}
 use Rattle.std.proofs.shelf.Tests.{cond-false}
 use Rattle.books.specs.References.{word-of}
-use Rattle.books.proofs.Packing.{kept-in-parts, made}
+use Rattle.books.proofs.Packing.{kept-in-parts, read-of}
 use Rattle.books.proofs.reference.Reference.read.Needs as need
 use Rattle.books.proofs.reference.Reference.read.Needs.{then-len-lt8, else-len-lt8}
 
@@ -20,5 +20,5 @@ returns c =
     let cut : c .if-len-lt8 .cut ≡ min (length bs) 8 = elim (c .if-len-lt8 .came) [ then-len-lt8 w ↦ omega (arith, w .cut-is) | else-len-lt8 w ↦ omega (arith, w .cut-is) ] in
     let first : c .packed .result ≡ word-of (take (c .if-len-lt8 .cut - 0) bs) = search needs in
     let second : c .packed-2 .result ≡ word-of (take (length bs - c .if-len-lt8 .cut) (drop (c .if-len-lt8 .cut) bs)) = search needs in
-    let m = made bs _ (sym (c .if-not-is-reference .ensures tt)) (kept-in-parts bs (c .if-len-lt8 .cut) (c .packed .result) (c .packed-2 .result) cut first second) in
+    let m = read-of bs _ (sym (c .if-not-is-reference .ensures tt)) (kept-in-parts bs (c .if-len-lt8 .cut) (c .packed .result) (c .packed-2 .result) cut first second) in
     record { value = m .value; says = m .says; gives = m .gives }
