@@ -70,6 +70,7 @@ two-words (suc n) m (b ∷ bs) h l =
 
 module _ (bs : List ℕ) (h : is-reference bs ≡ true) where
   pub spelled-kept : spelled (kept bs) ≡ bs
+  unfolding spelled kept
   spelled-kept =
       let p = and-parts _ (every printable bs) h in
       let q = p .0 in
@@ -77,15 +78,18 @@ module _ (bs : List ℕ) (h : is-reference bs ≡ true) where
       two-words 8 8 bs (p .1) l
 
   pub kept-is-kept : is-kept (kept bs) ≡ true
+  unfolding is-kept kept
   kept-is-kept =
       let e = spelled-kept in
       and-from _ _ (eq-eqb _ _ (ap (λ l. word-of (take 8 l)) (sym e)))
       (and-from _ _ (eq-eqb _ _ (ap (λ l. word-of (drop 8 l)) (sym e))) (eq-eqb _ _ (ap length (sym e))))
 
   pub says-kept : says-of (kept bs) ≡ bs
+  unfolding says-of
   says-kept = cond-true _ _ _ kept-is-kept ∙ spelled-kept
 
 kept-back : (r : Reference) → is-kept r ≡ true → r ≡ kept (spelled r)
+unfolding is-kept kept
 kept-back r h =
     let p = and-parts (eqb (r .first) (word-of (take 8 (spelled r)))) _ h in
     let q = and-parts (eqb (r .second) (word-of (drop 8 (spelled r)))) _ (p .1) in
@@ -103,6 +107,7 @@ never-stray (suc n) f s rest e =
     omega arith
 
 pub tells-apart : (a b : Reference) → says-of a ≡ says-of b → a ≡ b
+unfolding says-of spelled
 tells-apart a b e =
     elim (cases-bool (is-kept a)) [
       | inl p ↦ elim (cases-bool (is-kept b)) [
@@ -146,6 +151,7 @@ module _ (a b : Reference) where
 
 -- so many bytes from a word each, at most eight
 pub kept-in-parts : (bs : List ℕ) (cut first second : ℕ) → cut ≡ min (length bs) 8 → first ≡ word-of (take (cut - 0) bs) → second ≡ word-of (take (length bs - cut) (drop cut bs)) → record { first = first; second = second; len = length bs } ≡ kept bs
+unfolding kept
 kept-in-parts bs cut first second e f s =
     let a : take (cut - 0) bs ≡ take 8 bs =
     elim (cases-lt (length bs) 8) [
@@ -162,6 +168,7 @@ kept-in-parts bs cut first second e f s =
     (λ i. record { first = p i; second = q i; len = length bs })
 
 pub spelled-cut : (r : Reference) (end : ℕ) → end ≡ min (r .len) 16 → take (end - 0) (bytes-of 8 (r .first) ++ bytes-of 8 (r .second)) ≡ spelled r
+unfolding spelled
 spelled-cut r end e =
     elim (cases-lt (r .len) 16) [
       | inl h ↦ (let n : end - 0 ≡ r .len = omega arith in ap (λ m. take m (bytes-of 8 (r .first) ++ bytes-of 8 (r .second))) n)

@@ -27,23 +27,23 @@ bytes-of zero word = []
 bytes-of (suc n) word = (word % 256) ∷ bytes-of n (word / 256)
 
 -- bytes as they are kept: eight in the first word, the rest in the second
-abbrev pub kept : List ℕ → Reference
+unfoldable pub kept : List ℕ → Reference
 kept bs = record { first = word-of (take 8 bs); second = word-of (drop 8 bs); len = length bs }
 
 abbrev pub reference-of : List ℕ → Option Reference
 reference-of bs = cond (is-reference bs) (Some (kept bs)) None
 
 -- the bytes that it holds
-abbrev pub spelled : Reference → List ℕ
+unfoldable pub spelled : Reference → List ℕ
 spelled r = take (r .len) (bytes-of 8 (r .first) ++ bytes-of 8 (r .second))
 
 -- whether it is its bytes as they are kept; so of every one that can be made
-abbrev pub is-kept : Reference → Bool
+unfoldable pub is-kept : Reference → Bool
 is-kept r = eqb (r .first) (word-of (take 8 (spelled r))) && (eqb (r .second) (word-of (drop 8 (spelled r))) && eqb (r .len) (length (spelled r)))
 
 -- what a reference says: its bytes. Anything else, which cannot be made, would say its own parts
 -- behind 256, which is no byte: so no two that differ say the same
-abbrev pub says-of : Reference → List ℕ
+unfoldable pub says-of : Reference → List ℕ
 says-of r = cond (is-kept r) (spelled r) (256 ∷ r .first ∷ r .second ∷ r .len ∷ [])
 
 -- what is told of a reference, if there is one
