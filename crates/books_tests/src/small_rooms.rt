@@ -190,40 +190,44 @@ const TWO_EACH: [Step; 67] = [
     Room(7, 2),
 ];
 
-fn over<K: SampleKey, R: SampleRecord>(
-    cells: &mut [Entry<K, R>],
-    script: &[Step],
-) -> Result<(), Fail> {
-    let mut book = Shares::over(cells);
-    play(&mut book, script)
+fn no_room<K: SampleKey, R: SampleRecord>(cells: &mut [Entry<K, R>]) -> Result<(), Fail> {
+    play(&mut Shares::over(cells), &NO_ROOM)
+}
+
+fn one_each<K: SampleKey, R: SampleRecord>(cells: &mut [Entry<K, R>]) -> Result<(), Fail> {
+    play(&mut Shares::over(cells), &ONE_EACH)
+}
+
+fn two_each<K: SampleKey, R: SampleRecord>(cells: &mut [Entry<K, R>]) -> Result<(), Fail> {
+    play(&mut Shares::over(cells), &TWO_EACH)
 }
 
 #[test]
 fn room_0() -> Result<(), Fail> {
     let order = cell::<Reference, Order>()?;
     let statement = cell::<Number, Statement>()?;
-    over(&mut [order; 0], &NO_ROOM)?;
-    over(&mut [order; 7], &NO_ROOM)?;
-    over(&mut [statement; 1], &NO_ROOM)?;
-    over(&mut [statement; 7], &NO_ROOM)
+    no_room(&mut [order; 0])?;
+    no_room(&mut [order; 7])?;
+    no_room(&mut [statement; 1])?;
+    no_room(&mut [statement; 7])
 }
 
 #[test]
 fn room_1() -> Result<(), Fail> {
     let order = cell::<Reference, Order>()?;
     let statement = cell::<Number, Statement>()?;
-    over(&mut [order; 8], &ONE_EACH)?;
-    over(&mut [order; 15], &ONE_EACH)?;
-    over(&mut [statement; 8], &ONE_EACH)?;
-    over(&mut [statement; 13], &ONE_EACH)
+    one_each(&mut [order; 8])?;
+    one_each(&mut [order; 15])?;
+    one_each(&mut [statement; 8])?;
+    one_each(&mut [statement; 13])
 }
 
 #[test]
 fn room_2() -> Result<(), Fail> {
     let order = cell::<Reference, Order>()?;
     let statement = cell::<Number, Statement>()?;
-    over(&mut [order; 16], &TWO_EACH)?;
-    over(&mut [order; 23], &TWO_EACH)?;
-    over(&mut [statement; 16], &TWO_EACH)?;
-    over(&mut [statement; 17], &TWO_EACH)
+    two_each(&mut [order; 16])?;
+    two_each(&mut [order; 23])?;
+    two_each(&mut [statement; 16])?;
+    two_each(&mut [statement; 17])
 }
