@@ -1,5 +1,5 @@
 //! The key of a statement: its number.
-ghost use mathlib.Core.List.{List, [], _∷_};
+ghost use mathlib.Core.List.{[], _∷_};
 ghost use mathlib.Core.Path.{_≡_};
 ghost use Rattle.books.specs.Numbers.{numbered};
 use crate::keys::Key;

@@ -1,7 +1,7 @@
 //! The book of equal shares: over a lent slice, each account has its own run of cells.
 ghost use mathlib.Core.List.{[]};
 ghost use mathlib.Core.Path.{_≡_};
-ghost use Prim.Native.Nat.{ℕ, _*_, _+_, _<_, _≤_};
+ghost use Prim.Native.Nat.{_*_, _+_, _<_, _≤_};
 ghost use lib.ListN.{length, set};
 ghost use denote.Ref.{now};
 ghost use Rattle.books.specs.Runs.{share-of, size-of, room-of, run, closed, run-fits, room-ends};
