@@ -12,6 +12,7 @@ pub use amounts::read_amount;
 pub use amounts::write_normal_amount;
 pub use dates::Date;
 pub use dates::DateDebug;
+pub use dates::DateEq;
 pub use dates::DatePartialEq;
 pub use dates::MonthDay;
 pub use dates::MonthDayDebug;
