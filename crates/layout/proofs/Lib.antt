@@ -1,3 +1,4 @@
 pub mod Bounds
 pub mod UserTrips
 pub mod TextTrips
+pub mod Backs

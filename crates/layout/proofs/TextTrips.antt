@@ -147,7 +147,7 @@ module _ (p : Parts) (ok : Well-formed p) where
   behind = user-then (p .user) (four (p .fields))
 
   long : length (p .basic) ≡ 29
-  long = eqb-true (length (p .basic)) 29 (and-parts (eqb (length (p .basic)) 29) _ (ok .basic) .0)
+  long = eqb-true (length (p .basic)) 29 (and-parts (eqb (length (p .basic)) 29) _ (ok .parts .basic) .0)
 
   front : take 29 text ≡ p .basic
   front = take-at (p .basic) (p .application ++ behind) 29 long
@@ -156,7 +156,7 @@ module _ (p : Parts) (ok : Well-formed p) where
   behind-front = drop-at (p .basic) (p .application ++ behind) 29 long
 
   second : (a : Application) × Second (p .application) behind a
-  second = ⊎-elim (input (p .application) behind) (output (p .application) behind) (or-cases (is-input (p .application)) (is-output (p .application)) (ok .application))
+  second = ⊎-elim (input (p .application) behind) (output (p .application) behind) (or-cases (is-input (p .application)) (is-output (p .application)) (ok .parts .application))
 
   abbrev a : Application
   a = second .0
@@ -164,7 +164,7 @@ module _ (p : Parts) (ok : Well-formed p) where
   headers-laid : application-at text ≡ Ok a
   headers-laid =
       (λ j. cond (is-basic (front j)) (wanted (application-of (behind-front j)) 29) (refused-at 3 0))
-      ∙ (λ j. cond (ok .basic j) (wanted (second .1 .found j) 29) (refused-at 3 0))
+      ∙ (λ j. cond (ok .parts .basic j) (wanted (second .1 .found j) 29) (refused-at 3 0))
 
   behind-headers : drop (29 + a .width) text ≡ behind
   behind-headers =
@@ -172,7 +172,7 @@ module _ (p : Parts) (ok : Well-formed p) where
       ∙ drop-at (p .application) behind (a .width) (sym (second .1 .wide))
 
   opening : (o : Opening) × Third text (29 + a .width) (p .user) (four (p .fields)) o
-  opening = third text (29 + a .width) (p .user) (p .fields) (ok .user) behind-headers
+  opening = third text (29 + a .width) (p .user) (p .fields) (ok .parts .user) behind-headers
 
   abbrev o : Opening
   o = opening .0
@@ -181,7 +181,7 @@ module _ (p : Parts) (ok : Well-formed p) where
   start = opens-four text (o .at) (p .fields) (opening .1 .left)
 
   body : (b : Found) × Fourth text (o .at + 5) (p .fields) b
-  body = fourth text (o .at + 5) (p .fields) (ok .fields) (start .2) (start .1)
+  body = fourth text (o .at + 5) (p .fields) (ok .parts .fields) (start .2) (start .1)
 
   abbrev b : Body
   b = record { fields = length (body .0 .fields); hyphen = body .0 .hyphen }

@@ -80,12 +80,16 @@ abbrev pub user-fits : Option User → Type 0
 user-fits None = Unit {0}
 user-fits (Some u) = User-ok u
 
-pub record Well-formed (p : Parts) : Type 0 where
+-- each part as it must be
+pub record Parts-ok (p : Parts) : Type 0 where
   pub basic : is-basic (p .basic) ≡ true
   pub application : (is-input (p .application) || is-output (p .application)) ≡ true
   pub user : user-fits (p .user)
   pub fields : All Item-ok (p .fields)
-  -- and the whole has a text's length and bytes
+
+-- and the whole has a text's length and bytes
+pub record Well-formed (p : Parts) : Type 0 where
+  pub parts : Parts-ok p
   pub bytes : checked (rendered p) ≡ Ok tt
 
 -- ---- what a layout found
@@ -125,6 +129,10 @@ pub record Lays-out (p : Parts) (l : Layout) : Type 0 where
 
 abbrev pub Round-trip : Type 0
 Round-trip = (p : Parts) → Well-formed p → (l : Layout) × Lays-out p l
+
+-- the other way round, the parts that are found in a text are as they must be
+abbrev pub Accepted : Type 0
+Accepted = (text : List ℕ) (l : Layout) → laid-out text ≡ Ok l → Parts-ok (parts-of text l)
 
 -- ---- normal order
 

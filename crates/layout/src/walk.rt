@@ -2,7 +2,7 @@
 ghost use mathlib.Core.Path.{_≡_};
 ghost use Rattle.mt_text.specs.Refusals.{told};
 ghost use Rattle.layout.specs.Walk.{application-at, opening-at, body-start, end-at, laid-out};
-ghost use Rattle.layout.specs.Render.{Round-trip};
+ghost use Rattle.layout.specs.Render.{Round-trip, Accepted};
 use fields::read_body;
 use headers::Application;
 use headers::Direction;
@@ -119,10 +119,11 @@ fn walk(text: &[u8]) -> Result<Layout, Fault>
 }
 
 // Lays out a text, or refuses it by 1, 2, 3 or 5. A text that is written from well-formed parts is laid
-// out into these parts.
+// out into these parts, and the parts of every text that is laid out are as they must be.
 pub fn lay_out(text: &[u8]) -> Result<Layout, Fault>
     ensures answer { λ r. ⌜ told r ≡ laid-out (now (text .entry)) ⌝ }
     ensures round_trip { λ _. ⌜ Round-trip ⌝ }
+    ensures accepted { λ _. ⌜ Accepted ⌝ }
 {
     walk(text)
 }

@@ -11,10 +11,12 @@ returns c =
       left-over = refl;
       parts =
           record {
-            basic = refl;
-            application = refl;
-            user = tt;
+            parts = record {
+              basic = refl;
+              application = refl;
+              user = tt;
+              fields = (record { tag = refl; content = refl }, (record { tag = refl; content = refl }, (record { tag = refl; content = refl }, tt)));
+            };
             bytes = refl;
-            fields = (record { tag = refl; content = refl }, (record { tag = refl; content = refl }, (record { tag = refl; content = refl }, tt)));
           };
     }
