@@ -39,7 +39,7 @@ pub fn read_number(digits: &[u8]) -> Option<u64>
 }
 
 // Where the byte first stands, or the text's length.
-pub(crate) fn place_of(b: u8, text: &[u8]) -> usize
+pub fn place_of(b: u8, text: &[u8]) -> usize
     ensures { λ r. ⌜ r ≡ place b (now (text .entry)) ⌝ }
 {
     for i in 0..text.len() {

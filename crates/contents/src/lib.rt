@@ -7,6 +7,7 @@ mod examples;
 mod times;
 
 pub use amounts::MAX_AMOUNT;
+pub use amounts::leading_zeros;
 pub use amounts::normal_amount;
 pub use amounts::read_amount;
 pub use amounts::write_normal_amount;
@@ -14,6 +15,7 @@ pub use dates::Date;
 pub use dates::MonthDay;
 pub use dates::read_date;
 pub use dates::read_month_day;
+pub use digits::place_of;
 pub use digits::read_number;
 pub use examples::worked_examples;
 pub use times::Time;
