@@ -36,7 +36,7 @@ alphanumerics-printable = every-weaker alphanumeric printable (λ b h. grind (ar
 
 -- ---- lines put together
 
-laid-more : (b : ℕ) (bs : List ℕ) → printable b ≡ true → laid bs ≡ true → laid (b ∷ bs) ≡ true
+pub laid-more : (b : ℕ) (bs : List ℕ) → printable b ≡ true → laid bs ≡ true → laid (b ∷ bs) ≡ true
 laid-more b [] h k = h
 laid-more b (c ∷ bs) h k = cond-true (printable b) (laid (c ∷ bs)) _ h ∙ k
 
@@ -101,3 +101,8 @@ lines-laid zero width bs h = absurd (grind arith)
 lines-laid (suc n) width bs h =
     let p = and-parts (is-line width (first-line bs)) (eqb (line-end bs) (length bs) || (goes-on bs && lines n width (next-line bs))) h in
     lines-laid-by n width bs (p .0) (p .1) (lines-laid n width)
+
+-- bytes of x in front of a content that is laid out
+pub laid-behind : (front rest : List ℕ) → every printable front ≡ true → laid rest ≡ true → laid (front ++ rest) ≡ true
+laid-behind [] rest h k = k
+laid-behind (b ∷ front) rest h k = let r = and-parts (printable b) (every printable front) h in laid-more b (front ++ rest) (r .0) (laid-behind front rest (r .1) k)
