@@ -23,12 +23,12 @@ use Rattle.contents.proofs.AmountParts.{own, Parts, parts, Worth, worth, digit
 
 -- digits without zeros in front: still digits, some of them, no more than before, writing the same
 -- number, and beginning with a zero only where that is all
-record Led (ds rs : List ℕ) : Type 0 where
-  digits : every digit rs ≡ true
-  some : 1 ≤ length rs
-  fewer : length rs ≤ length ds
-  same : number rs ≡ number ds
-  first : getD rs 0 0 ≡ 48 → length rs ≡ 1
+pub record Led (ds rs : List ℕ) : Type 0 where
+  pub digits : every digit rs ≡ true
+  pub some : 1 ≤ length rs
+  pub fewer : length rs ≤ length ds
+  pub same : number rs ≡ number ds
+  pub first : getD rs 0 0 ≡ 48 → length rs ≡ 1
 
 -- a zero with digits behind it goes, anything else stays
 led-by : (d : ℕ) (ds : List ℕ) → every digit (d ∷ ds) ≡ true → (1 ≤ length ds → Led ds (without-leading ds)) → (b : Bool) → (eqb d 48 && ltb 0 (length ds)) ≡ b → Led (d ∷ ds) (cond b (without-leading ds) (d ∷ ds))
@@ -38,7 +38,7 @@ led-by d ds h on true e =
     record { digits = r .digits; some = r .some; fewer = omega (arith, r .fewer); same = r .same ∙ ap (λ n. number-after (0 * 10 + (n - 48)) ds) (sym z); first = r .first }
 led-by d ds h on false e = record { digits = h; some = omega arith; fewer = omega arith; same = refl; first = λ z. grind (arith, tells) }
 
-led : (ds : List ℕ) → every digit ds ≡ true → 1 ≤ length ds → Led ds (without-leading ds)
+pub led : (ds : List ℕ) → every digit ds ≡ true → 1 ≤ length ds → Led ds (without-leading ds)
 led [] h l = absurd (omega arith)
 led (d ∷ ds) h l = led-by d ds h (λ k. led ds (and-parts (digit d) (every digit ds) h .1) k) (eqb d 48 && ltb 0 (length ds)) refl
 
@@ -54,8 +54,8 @@ shortest n = cond (eqb n 0) [] (cond (eqb (n % 10) 0) ((48 + n / 10) ∷ []) ((4
 
 -- digits without zeros at the end: still digits, no more than before, worth the same, and told by their worth
 record Trailed (ds rs : List ℕ) : Type 0 where
-  digits : every digit rs ≡ true
-  fewer : length rs ≤ length ds
+  pub digits : every digit rs ≡ true
+  pub fewer : length rs ≤ length ds
   same : cents rs ≡ cents ds
   told : rs ≡ shortest (cents ds)
 
@@ -172,12 +172,12 @@ module _ (bs : List ℕ) (h : is-amount bs ≡ true) where
   back : Trailed (decimals bs) (without-trailing (decimals bs))
   back = let p = parts bs h in trailed (decimals bs) (p .back) (p .few)
 
-  normal-is-amount : is-amount (normal bs) ≡ true
+  pub normal-is-amount : is-amount (normal bs) ≡ true
   normal-is-amount =
       let p = parts bs h in
       amount-at _ _ (front .digits) (back .digits) (front .some) (omega (arith, back .fewer, p .few)) (omega (arith, front .fewer, back .fewer, p .at, p .behind, p .short))
 
-  normal-worth : hundredths (normal bs) ≡ hundredths bs
+  pub normal-worth : hundredths (normal bs) ≡ hundredths bs
   normal-worth =
       (λ i. number (whole-at (without-leading (whole bs)) (without-trailing (decimals bs)) (front .digits) i) * 100 + cents (decimals-at (without-leading (whole bs)) (without-trailing (decimals bs)) (front .digits) i))
       ∙ (λ i. front .same i * 100 + back .same i)
@@ -188,7 +188,7 @@ module _ (bs : List ℕ) (h : is-amount bs ≡ true) where
       ap decimal (sym (front .same))
       ∙ decimal-value own (without-leading (whole bs)) (front .digits) (omega (arith, front .some)) (front .first) (omega (arith, worth bs h .whole-below, front .same))
 
-same-worth : (a b : List ℕ) → is-amount a ≡ true → is-amount b ≡ true → hundredths a ≡ hundredths b → normal a ≡ normal b
+pub same-worth : (a b : List ℕ) → is-amount a ≡ true → is-amount b ≡ true → hundredths a ≡ hundredths b → normal a ≡ normal b
 same-worth a b ha hb e =
     let u = worth a ha .decimals-below in
     let v = worth b hb .decimals-below in

@@ -67,7 +67,7 @@ pub fn read_amount(text: &[u8]) -> Option<u64>
 }
 
 // How many zeros the digits begin with, the last digit not counted.
-fn leading_zeros(digits: &[u8]) -> usize
+pub fn leading_zeros(digits: &[u8]) -> usize
     ensures within { λ r. ⌜ r ≤ length (now (digits .entry)) ⌝ }
     ensures rest { λ r. ⌜ drop r (now (digits .entry)) ≡ without-leading (now (digits .entry)) ⌝ }
 {

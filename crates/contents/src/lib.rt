@@ -7,6 +7,7 @@ mod examples;
 mod times;
 
 pub use amounts::MAX_AMOUNT;
+pub use amounts::leading_zeros;
 pub use amounts::normal_amount;
 pub use amounts::read_amount;
 pub use amounts::write_normal_amount;

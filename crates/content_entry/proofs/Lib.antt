@@ -1,0 +1,5 @@
+pub mod Steps
+pub mod Cuts
+pub mod FrontLaws
+pub mod BehindLaws
+pub mod EntryLaws

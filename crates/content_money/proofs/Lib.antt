@@ -1,0 +1,4 @@
+pub mod Dated
+pub mod MoneyLaws
+pub mod NumberLaws
+pub mod BalanceLaws

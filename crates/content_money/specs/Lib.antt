@@ -1,0 +1,5 @@
+pub mod Money
+pub mod Signs
+pub mod Balances
+pub mod Numbers
+pub mod Examples

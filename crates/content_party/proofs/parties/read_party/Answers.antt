@@ -1,0 +1,10 @@
+use mathlib.Core.Path.{_≡_, ap, sym, _∙_}
+use native.Mathlib.Omega.{arith}
+use Rattle.std.specs.declared.option.Option.the-variants.{None}
+use Rattle.contents.specs.Digits.{and-then}
+use Rattle.content_party.specs.Parties.{parts-of}
+use Rattle.content_party.proofs.PartyLaws.{no-second}
+use Rattle.content_party.proofs.parties.read_party.Needs as need
+
+pub returns-in-Break-code : need.returns-in-Break-code
+returns-in-Break-code c = ap parts-of (c .from-residual .ensures) ∙ no-second (c .args .places) (c .args .content .now) (λ e. c .if-end-content .left (c .first-end-end .ensures .is ∙ e)) (c .in-Break-code .ensures tt)
