@@ -5,13 +5,13 @@ ghost use mathlib.Core.Bool.{_&&_};
 ghost use lib.Dec.{eqb};
 ghost use lib.ListN.{length};
 ghost use Rattle.content_entry.specs.Behind.{is-type, slashes, is-references, is-rest, is-behind};
-use content_lines::byte_at;
 use content_lines::first_end;
 use content_lines::first_line;
 use content_lines::is_line;
 use content_lines::next_line;
 use mt_text::Class;
 use mt_text::all_of;
+use mt_text::byte_at;
 use mt_text::is_capital;
 
 // Whether the bytes are a transaction type: a capital and three capitals or digits.

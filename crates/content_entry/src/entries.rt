@@ -9,7 +9,6 @@ ghost use Rattle.mt_text.specs.Refusals.{told};
 ghost use Rattle.content_lines.specs.Formats.{Lawful, answer, written};
 ghost use Rattle.content_entry.specs.Entries.{mark-at, is-month-day, sign-of, mark-end, amount-at, front-of, run, rest, is-above, entry-of, entry-format};
 use crate::behind::is_behind;
-use content_lines::byte_at;
 use content_lines::put_parts;
 use content_money::Sign;
 use content_money::read_signed;
@@ -18,6 +17,7 @@ use contents::read_amount;
 use contents::read_date;
 use contents::read_month_day;
 use mt_text::Fault;
+use mt_text::byte_at;
 use mt_text::is_capital;
 use mt_text::is_digit;
 

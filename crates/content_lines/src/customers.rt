@@ -3,12 +3,12 @@ ghost use mathlib.Core.Path.{_≡_};
 ghost use Rattle.mt_text.specs.Refusals.{told};
 ghost use Rattle.content_lines.specs.Formats.{Lawful, answer, written};
 ghost use Rattle.content_lines.specs.Customers.{account-and-name, is-customer, customer-format};
-use crate::lines::byte_at;
 use crate::lines::first_line;
 use crate::lines::is_line;
 use crate::lines::is_lines;
 use crate::lines::next_line;
 use mt_text::Fault;
+use mt_text::byte_at;
 use mt_text::put_front;
 
 // Whether an account and one to four lines stand behind the slash.

@@ -7,7 +7,6 @@ mod words;
 
 pub use customers::is_customer;
 pub use customers::write_customer;
-pub use lines::byte_at;
 pub use lines::first_end;
 pub use lines::first_line;
 pub use lines::is_line;

@@ -14,6 +14,7 @@ use contents::place_of;
 use mt_text::Class;
 use mt_text::Fault;
 use mt_text::all_of;
+use mt_text::byte_at;
 use mt_text::put_front;
 
 // Whether the bytes are one line of x, no longer than the width.
@@ -29,13 +30,6 @@ pub fn first_end(bytes: &[u8]) -> usize
     ensures within { λ r. ⌜ r ≤ length (now (bytes .entry)) ⌝ }
 {
     place_of(b'\r', bytes)
-}
-
-// The byte at a place, or 0 past the end.
-pub fn byte_at(bytes: &[u8], at: usize) -> u8
-    ensures { λ r. ⌜ r ≡ getD (now (bytes .entry)) at 0 ⌝ }
-{
-    if at < bytes.len() { bytes[at] } else { 0 }
 }
 
 // Whether a line that begins so would begin a field or end the block.

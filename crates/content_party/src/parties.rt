@@ -5,7 +5,6 @@ ghost use Rattle.std.specs.Options.{mapped};
 ghost use Rattle.mt_text.specs.Refusals.{told};
 ghost use Rattle.content_lines.specs.Formats.{Lawful, answer, written};
 ghost use Rattle.content_party.specs.Parties.{places-fit, is-code, account-at, account-in, party-of, parts-of, code-told, filling, party-format};
-use content_lines::byte_at;
 use content_lines::first_end;
 use content_lines::first_line;
 use content_lines::is_line;
@@ -14,6 +13,7 @@ use content_lines::put_parts;
 use mt_text::Class;
 use mt_text::Fault;
 use mt_text::all_of;
+use mt_text::byte_at;
 use mt_text::is_capital;
 
 // How many places a bank code may have.
