@@ -16,4 +16,7 @@ pub use money::write_money;
 pub use numbers::read_statement_number;
 pub use numbers::write_statement_number;
 pub use signs::Sign;
+pub use signs::SignDebug;
+pub use signs::SignEq;
+pub use signs::SignPartialEq;
 pub use signs::read_signed;
