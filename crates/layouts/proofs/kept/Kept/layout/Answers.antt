@@ -4,4 +4,4 @@ use Rattle.layouts.proofs.Fronts.{front-tells}
 use Rattle.layouts.proofs.kept.Kept.layout.Needs as need
 
 pub returns : need.returns
-returns c text e = c .lay-out .ensures ∙ ap laid-out (c .front .ensures ∙ e) ∙ front-tells text
+returns c text e = c .lay-out .ensures .answer ∙ ap laid-out (c .front .ensures ∙ e) ∙ front-tells text
