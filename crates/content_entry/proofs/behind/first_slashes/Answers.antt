@@ -1,8 +1,6 @@
-use mathlib.Core.Path.{_≡_, sym, ap, _∙_}
 use native.Mathlib.Omega.{arith}
-use borrow.Author.Needs.{needs}
 use Rattle.std.proofs.shelf.Ways.{tells}
-use Rattle.content_entry.proofs.Steps.{slashes-more, slashes-all, slashes-within}
+use Rattle.content_entry.proofs.Steps.{slashes-more, slashes-all}
 use Rattle.content_entry.proofs.behind.first_slashes.Needs as need
 
 pub returns-then-are-slashes : need.returns-then-are-slashes
