@@ -1,20 +1,20 @@
 -- The laws of answers and related messages.
 use mathlib.Core.Path.{_≡_, refl, sym, ap, _∙_}
-use mathlib.Core.Bool.{Bool, true, false, cond, _&&_, _||_}
-use mathlib.Core.Logic.{_⊎_, inl, inr, ⊎-elim}
-use mathlib.Core.List.{List, [], _∷_, _++_}
-use Prim.Native.Nat.{ℕ, _+_, _-_, _<_, _≤_}
+use mathlib.Core.Bool.{true, cond, _&&_, _||_}
+use mathlib.Core.Logic.{_⊎_, ⊎-elim}
+use mathlib.Core.List.{List, _∷_, _++_}
+use Prim.Native.Nat.{ℕ, _+_, _-_, _≤_}
 use native.Mathlib.Omega.{arith}
 use lib.Chars.{codes}
-use lib.Dec.{eqb, leb, ltb}
+use lib.Dec.{eqb}
 use lib.ListN.{length, take, drop, getD}
 use Rattle.std.specs.Options.{isSome}
 use Rattle.std.specs.shelf.Text.{sameBytes}
 use Rattle.std.specs.declared.option.Option.{Option}
 use Rattle.std.specs.declared.option.Option.the-variants.{Some, None}
 use Rattle.std.proofs.shelf.Equals.{sameBytes-decides}
-use Rattle.std.proofs.shelf.Lists.{drop-drop, take-append-drop, take-all, length-append, length-drop, length-take-le, drop-more, nil-from-length}
-use Rattle.std.proofs.shelf.Tests.{cases-bool, and-parts, and-from, or-cases, eqb-true, cond-true, cond-false}
+use Rattle.std.proofs.shelf.Lists.{drop-drop, take-append-drop, take-all, length-drop, length-take-le, drop-more, nil-from-length}
+use Rattle.std.proofs.shelf.Tests.{cases-bool, and-parts, and-from, or-cases, eqb-true, cond-false}
 use Rattle.std.proofs.shelf.Ways.{tells}
 use Rattle.mt_text.specs.Classes.{among, digit, every, printable}
 use Rattle.contents.specs.Digits.{and-then}
@@ -23,7 +23,7 @@ use Rattle.contents.specs.Times.{time-of}
 use Rattle.content_lines.specs.Formats.{laid, tidy, Lawful}
 use Rattle.content_lines.specs.Lines.{line-end, first-line, next-line, next-of, goes-on}
 use Rattle.content_lines.proofs.Chosen.{after, passed, told-some, Digits, date-digits, time-digits}
-use Rattle.content_lines.proofs.Places.{place-within, Goes-on, goes-on-parts, next-some}
+use Rattle.content_lines.proofs.Places.{place-within, goes-on-parts, next-some}
 use Rattle.content_lines.proofs.Shapes.{every-append, digits-printable, laid-line, laid-on, tidy-from}
 use Rattle.content_lines.proofs.Laws.{stands}
 use Rattle.content_answer.specs.declared.answers.AnswerCode.{AnswerCode}

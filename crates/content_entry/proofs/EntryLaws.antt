@@ -1,37 +1,34 @@
 -- The laws of statement entries.
 use mathlib.Core.Path.{_≡_, refl, sym, ap, _∙_}
-use mathlib.Core.Bool.{Bool, true, false, cond, not, _&&_, _||_}
+use mathlib.Core.Bool.{Bool, true, false, cond, _&&_, _||_}
 use mathlib.Core.Logic.{⊎-elim}
 use mathlib.Core.List.{List, [], _∷_, _++_}
-use Prim.Native.Nat.{ℕ, suc, _+_, _-_, _<_, _≤_}
+use Prim.Native.Nat.{ℕ, suc, _+_, _≤_}
 use native.Mathlib.Numerals.{add-one}
 use native.Mathlib.Omega.{arith}
-use lib.Dec.{eqb, leb, ltb}
-use lib.IntN.{ℤ}
+use lib.Dec.{eqb, ltb}
 use lib.ListN.{length, take, drop, getD}
 use Rattle.std.specs.Options.{isSome}
-use Rattle.std.specs.declared.option.Option.{Option}
 use Rattle.std.specs.declared.option.Option.the-variants.{Some, None}
 use Rattle.std.proofs.shelf.Lists.{take-append-drop, take-at, drop-at, getD-append-left, getD-take, length-append, length-drop, length-take-le}
 use Rattle.std.proofs.shelf.Tests.{cases-bool, and-parts, and-from, cond-true, cond-false}
-use Rattle.std.proofs.shelf.Ways.{tells}
-use Rattle.mt_text.specs.Classes.{digit, every, printable}
+use Rattle.mt_text.specs.Classes.{digit, every}
 use Rattle.contents.specs.Digits.{and-then}
-use Rattle.contents.specs.Amounts.{comma, whole, decimals, is-amount, hundredths, amount-of, normal, normal-of}
+use Rattle.contents.specs.Amounts.{whole, decimals, is-amount, hundredths, normal}
 use Rattle.contents.proofs.AmountParts.{parts}
 use Rattle.contents.proofs.NormalAmounts.{normal-is-amount, normal-worth, same-worth}
-use Rattle.content_lines.specs.Formats.{Saying, entry, laid, tidy, Lawful}
+use Rattle.content_lines.specs.Formats.{entry, laid, tidy, Lawful}
 use Rattle.content_lines.proofs.Chosen.{after, passed, told-some}
 use Rattle.content_lines.proofs.Shapes.{every-weaker, every-append, laid-behind, tidy-from}
 use Rattle.content_money.specs.declared.signs.Sign.{Sign}
 use Rattle.content_money.specs.Signs.{signed, signed-of}
-use Rattle.content_money.proofs.Dated.{amount-again, amount-printable}
+use Rattle.content_money.proofs.Dated.{amount-printable}
 use Rattle.content_entry.specs.Behind.{is-behind}
-use Rattle.content_entry.specs.Entries.{mark-at, amount-at, front-of, run, front, rest, amount, behind, is-above, entry-of, entry-format}
+use Rattle.content_entry.specs.Entries.{amount-at, front-of, run, front, rest, amount, behind, is-above, entry-of, entry-format}
 use Rattle.content_entry.proofs.Steps.{run-within}
 use Rattle.content_entry.proofs.Cuts.{entry-read}
 use Rattle.content_entry.proofs.FrontLaws.{same-start, same-front, front-printable}
-use Rattle.content_entry.proofs.BehindLaws.{Laid, behind-laid}
+use Rattle.content_entry.proofs.BehindLaws.{behind-laid}
 
 -- ---- the run of an amount
 

@@ -1,20 +1,18 @@
 -- What stands before the amount of a statement entry tells the same whatever follows it.
 use mathlib.Core.Path.{_≡_, refl, sym, ap, _∙_}
-use mathlib.Core.Bool.{Bool, true, false, cond, not, _&&_, _||_}
-use mathlib.Core.Logic.{_⊎_, inl, inr, ⊎-elim}
+use mathlib.Core.Bool.{Bool, true, false, cond, _&&_}
+use mathlib.Core.Logic.{_⊎_, ⊎-elim}
 use mathlib.Core.List.{List, [], _∷_, _++_}
-use Prim.Native.Nat.{ℕ, _+_, _-_, _<_, _≤_}
+use Prim.Native.Nat.{ℕ, _+_, _<_, _≤_}
 use native.Mathlib.Omega.{arith}
-use lib.Dec.{eqb, leb, ltb}
+use lib.Dec.{eqb}
 use lib.ListN.{length, take, drop, getD}
 use Rattle.std.specs.Options.{isSome}
-use Rattle.std.specs.declared.option.Option.{Option}
 use Rattle.std.specs.declared.option.Option.the-variants.{Some, None}
-use Rattle.std.proofs.shelf.Lists.{append-nil, take-append-le, drop-append-le, getD-append-left, getD-at, length-append, length-drop, drop-more, drop-all, drop-drop, take-append-drop, take-take, drop-take}
-use Rattle.std.proofs.shelf.Tests.{cases-bool, cases-lt, and-parts, and-from, eqb-true, cond-true, cond-false}
+use Rattle.std.proofs.shelf.Lists.{take-append-le, drop-append-le, getD-append-left, length-drop, drop-more, drop-all, drop-drop, take-append-drop, take-take, drop-take}
+use Rattle.std.proofs.shelf.Tests.{cases-bool, cases-lt, and-parts, eqb-true, cond-true, cond-false}
 use Rattle.std.proofs.shelf.Ways.{tells}
 use Rattle.mt_text.specs.Classes.{digit, capital, every, printable}
-use Rattle.contents.specs.Digits.{and-then}
 use Rattle.contents.specs.Dates.{date-of, month-day-of}
 use Rattle.content_lines.proofs.Chosen.{passed, told-some, date-digits, month-day-digits}
 use Rattle.content_lines.proofs.Shapes.{every-append, digits-printable}

@@ -1,27 +1,25 @@
 -- The laws of the formats made of lines.
-use mathlib.Core.Path.{_≡_, refl, sym, ap, _∙_, subst}
-use mathlib.Core.Bool.{Bool, true, false, cond, _&&_, _||_}
+use mathlib.Core.Path.{_≡_, refl, sym, ap, _∙_}
+use mathlib.Core.Bool.{Bool, true, false, _&&_}
 use mathlib.Core.Logic.{⊎-elim}
-use mathlib.Core.List.{List, [], _∷_, _++_}
-use Prim.Native.Nat.{ℕ, _+_, _-_, _*_, _<_, _≤_}
+use mathlib.Core.List.{List, [], _∷_}
+use Prim.Native.Nat.{ℕ, _+_, _*_, _<_, _≤_}
 use native.Mathlib.Omega.{arith}
 use lib.Chars.{codes}
 use lib.Dec.{eqb}
-use lib.ListN.{length, take, drop, getD}
+use lib.ListN.{length, drop, getD}
 use Rattle.std.specs.shelf.Text.{sameBytes}
 use Rattle.std.proofs.shelf.Equals.{sameBytes-decides}
 use Rattle.std.proofs.shelf.Lists.{length-drop, length-take-le, drop-more}
 use Rattle.std.proofs.shelf.Tests.{cases-bool, and-parts, or-cases, eqb-true, cond-true, cond-false}
-use Rattle.std.proofs.shelf.Ways.{tells}
-use Rattle.mt_text.specs.Classes.{printable}
 use Rattle.content_lines.specs.declared.words.Words.{Words}
 use Rattle.content_lines.specs.declared.words.Words.the-variants.{Credit, Charges}
-use Rattle.content_lines.specs.Formats.{Saying, plain, as-it-stands, laid, tidy, Lawful}
+use Rattle.content_lines.specs.Formats.{as-it-stands, laid, tidy, Lawful}
 use Rattle.content_lines.specs.Lines.{is-line, line-end, first-line, next-line, goes-on, lines, lines-of, lines-format}
 use Rattle.content_lines.specs.Words.{words-of, one-of, words-format}
 use Rattle.content_lines.specs.Customers.{account-and-name, is-customer, customer-format}
 use Rattle.content_lines.proofs.Places.{place-within, at-byte, goes-on-parts}
-use Rattle.content_lines.proofs.Shapes.{laid-on, laid-line, tidy-from, is-line-parts, Laid, lines-laid}
+use Rattle.content_lines.proofs.Shapes.{laid-on, tidy-from, is-line-parts, Laid, lines-laid}
 
 -- a format whose contents are normal as they stand has only its shape to show
 pub stands : {V : Type 0} (accepts : List ℕ → Bool) (value : List ℕ → V) → ((c : List ℕ) → accepts c ≡ true → tidy c ≡ true) → Lawful (as-it-stands accepts value)
@@ -40,9 +38,6 @@ lines-lawful count width m =
     (λ c h. let l = lines-laid count width c h in tidy-from c (l .some) (omega (arith, l .few)) (l .out))
 
 -- each word is tidy
-one-of-tidy : (ws : List (List ℕ)) → ((w : List ℕ) → one-of ws w ≡ true → tidy w ≡ true) → (c : List ℕ) → one-of ws c ≡ true → tidy c ≡ true
-one-of-tidy ws f c h = f c h
-
 word-tidy : (w c : List ℕ) → sameBytes c w ≡ true → tidy w ≡ true → tidy c ≡ true
 word-tidy w c h t = ap tidy (sameBytes-decides c w .0 h) ∙ t
 

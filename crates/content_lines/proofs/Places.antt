@@ -6,9 +6,9 @@ use mathlib.Core.List.{List, [], _∷_, _++_}
 use Prim.Native.Nat.{ℕ, zero, suc, _+_, _-_, _<_, _≤_}
 use native.Mathlib.Nat.{add-zero}
 use native.Mathlib.Omega.{arith}
-use lib.Dec.{eqb, ltb, leb}
-use lib.ListN.{length, take, drop, getD}
-use Rattle.std.proofs.shelf.Lists.{getD-drop, getD-past, drop-more, take-rest}
+use lib.Dec.{eqb}
+use lib.ListN.{length, drop, getD}
+use Rattle.std.proofs.shelf.Lists.{getD-drop, getD-past, drop-more}
 use Rattle.std.proofs.shelf.Tests.{cases-bool, cases-lt, and-parts, eqb-true}
 use Rattle.std.proofs.shelf.Ways.{tells}
 use Rattle.std.specs.declared.option.Option.the-variants.{Some, None}

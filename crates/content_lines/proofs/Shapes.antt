@@ -1,19 +1,19 @@
 -- Tidy contents, from what their lines are made of.
 use mathlib.Core.Path.{_≡_, refl, sym, ap, _∙_, subst}
-use mathlib.Core.Bool.{Bool, true, false, cond, not, _&&_, _||_}
+use mathlib.Core.Bool.{Bool, true, false, not, _&&_, _||_}
 use mathlib.Core.Logic.{⊎-elim}
 use mathlib.Core.List.{List, [], _∷_, _++_}
-use Prim.Native.Nat.{ℕ, zero, suc, _+_, _-_, _*_, _<_, _≤_}
+use Prim.Native.Nat.{ℕ, zero, suc, _+_, _*_, _≤_}
 use native.Mathlib.Omega.{arith}
-use lib.Dec.{eqb, ltb, leb}
-use lib.ListN.{length, take, drop, getD}
-use Rattle.std.proofs.shelf.Lists.{length-append, length-drop, length-take-le, take-all}
-use Rattle.std.proofs.shelf.Tests.{cases-bool, and-parts, and-from, or-cases, eqb-true, cond-true}
+use lib.Dec.{eqb}
+use lib.ListN.{length}
+use Rattle.std.proofs.shelf.Lists.{length-drop, length-take-le, take-all}
+use Rattle.std.proofs.shelf.Tests.{and-parts, and-from, or-cases, eqb-true, cond-true}
 use Rattle.std.proofs.shelf.Ways.{tells}
 use Rattle.mt_text.specs.Classes.{between, every, digit, capital, alphanumeric, printable}
 use Rattle.content_lines.specs.Formats.{begins, laid, tidy}
 use Rattle.content_lines.specs.Lines.{is-line, line-end, first-line, next-line, goes-on, lines}
-use Rattle.content_lines.proofs.Places.{place-within, Goes-on, goes-on-parts}
+use Rattle.content_lines.proofs.Places.{place-within, goes-on-parts}
 
 -- ---- classes
 

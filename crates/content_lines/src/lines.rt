@@ -1,7 +1,7 @@
 //! Lines, n*mx: one to n lines, each of one to m bytes of x, with CR LF between them.
 ghost use mathlib.Core.Path.{_≡_};
 ghost use mathlib.Core.Bool.{true};
-ghost use Prim.Native.Nat.{_+_, _*_, _≤_, _<_, _^_};
+ghost use Prim.Native.Nat.{_+_, _*_, _≤_, _<_};
 ghost use denote.Ref.{now as behind};
 ghost use lib.ListN.{length, getD};
 ghost use Rattle.std.specs.Options.{mapped};

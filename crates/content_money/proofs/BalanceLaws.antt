@@ -1,35 +1,31 @@
 -- The laws of balances.
 use mathlib.Core.Path.{_≡_, refl, sym, ap, _∙_}
-use mathlib.Core.Bool.{Bool, true, false, cond, _&&_}
+use mathlib.Core.Bool.{true, cond, _&&_}
 use mathlib.Core.Logic.{_⊎_, inl, inr, ⊎-elim}
-use mathlib.Core.List.{List, [], _∷_, _++_}
-use Prim.Native.Nat.{ℕ, zero, suc, _+_, _-_, _<_, _≤_}
+use mathlib.Core.List.{List, _∷_}
+use Prim.Native.Nat.{ℕ, zero, suc, _<_}
 use native.Mathlib.Omega.{arith}
-use lib.Dec.{eqb, leb, ltb}
-use lib.IntN.{ℤ, pos, negsuc, negℤ}
+use lib.Dec.{eqb}
+use lib.IntN.{ℤ, pos}
 use lib.ListN.{length, take, drop, getD}
 use Rattle.std.specs.Options.{isSome}
-use Rattle.std.specs.declared.option.Option.{Option}
 use Rattle.std.specs.declared.option.Option.the-variants.{Some, None}
 use Rattle.std.proofs.shelf.Lists.{length-drop, drop-more}
 use Rattle.std.proofs.shelf.Tests.{cases-bool, eqb-true, eqb-false, eq-eqb, cond-true, cond-false}
-use Rattle.std.proofs.shelf.Ways.{tells}
 use Rattle.mt_text.specs.Classes.{every, printable}
 use Rattle.contents.specs.Digits.{and-then}
-use Rattle.contents.specs.Amounts.{is-amount, hundredths, normal}
-use Rattle.contents.proofs.NormalAmounts.{normal-worth}
-use Rattle.content_lines.specs.Formats.{Saying, balance, tidy, Lawful}
+use Rattle.contents.specs.Amounts.{hundredths, normal}
+use Rattle.content_lines.specs.Formats.{balance, Lawful}
 use Rattle.content_lines.proofs.Chosen.{after, passed, told-some}
-use Rattle.content_lines.proofs.Places.{at-byte}
 use Rattle.content_lines.proofs.Shapes.{laid-line, tidy-from}
 use Rattle.content_money.specs.declared.balances.Balance.{Balance}
 use Rattle.content_money.specs.declared.money.Money.{Money}
 use Rattle.content_money.specs.declared.signs.Sign.{Sign}
 use Rattle.content_money.specs.declared.signs.Sign.the-variants.{Plus, Minus}
-use Rattle.content_money.specs.Money.{is-currency, dated-of, dated-normal}
+use Rattle.content_money.specs.Money.{is-currency, dated-of}
 use Rattle.content_money.specs.Signs.{signed}
 use Rattle.content_money.specs.Balances.{mark-of, balance-of, worth, normal-mark, balance-normal, balance-format}
-use Rattle.content_money.proofs.Dated.{Dated, dated-told, dated-again, front-again, amount-part-again, dated-one-normal, dated-one-value, Bytes, dated-bytes}
+use Rattle.content_money.proofs.Dated.{dated-told, dated-again, front-again, dated-one-normal, dated-one-value, dated-bytes}
 
 -- ---- what was told
 

@@ -1,30 +1,29 @@
 -- Date, currency and amount: what is read, and what the normal content tells.
-use mathlib.Core.Path.{_≡_, refl, sym, ap, _∙_}
-use mathlib.Core.Bool.{Bool, true, false, cond, _&&_}
-use mathlib.Core.List.{List, [], _∷_, _++_}
-use Prim.Native.Nat.{ℕ, _+_, _-_, _*_, _^_, _<_, _≤_}
+use mathlib.Core.Path.{_≡_, sym, ap, _∙_}
+use mathlib.Core.Bool.{true, cond}
+use mathlib.Core.List.{List, _∷_, _++_}
+use Prim.Native.Nat.{ℕ, _+_, _^_, _<_, _≤_}
 use native.Mathlib.Omega.{arith}
-use lib.Dec.{eqb, leb, ltb}
-use lib.ListN.{length, take, drop, getD}
-use Rattle.std.specs.Options.{isSome}
+use lib.Dec.{eqb, leb}
+use lib.ListN.{length, take, drop}
 use Rattle.std.specs.shelf.Text.{sameBytes}
 use Rattle.std.specs.declared.option.Option.{Option}
 use Rattle.std.specs.declared.option.Option.the-variants.{Some, None}
 use Rattle.std.proofs.shelf.Equals.{sameBytes-decides}
 use Rattle.std.proofs.shelf.Lists.{take-append-drop, take-append-le, drop-append-le, take-at, drop-at, drop-drop, length-append, length-drop, length-take-le}
-use Rattle.std.proofs.shelf.Tests.{and-parts, cond-true, leb-true, le-leb, eqb-true}
+use Rattle.std.proofs.shelf.Tests.{and-parts, cond-true, leb-true, le-leb}
 use Rattle.std.proofs.shelf.Ways.{tells}
-use Rattle.mt_text.specs.Classes.{capital, digit, every, printable}
+use Rattle.mt_text.specs.Classes.{capital, every, printable}
 use Rattle.contents.specs.declared.dates.Date.{Date}
 use Rattle.contents.specs.Digits.{and-then}
 use Rattle.contents.specs.Dates.{date-of}
-use Rattle.contents.specs.Amounts.{comma, whole, decimals, is-amount, hundredths, amount-of, normal, normal-of}
+use Rattle.contents.specs.Amounts.{whole, decimals, is-amount, hundredths, amount-of, normal, normal-of}
 use Rattle.contents.proofs.AmountParts.{parts, worth}
 use Rattle.contents.proofs.NormalAmounts.{normal-is-amount, normal-worth, same-worth}
-use Rattle.content_lines.proofs.Chosen.{after, passed, told-some, date-digits}
+use Rattle.content_lines.proofs.Chosen.{after, passed, date-digits}
 use Rattle.content_lines.proofs.Shapes.{every-append, digits-printable, capitals-printable}
 use Rattle.content_money.specs.declared.money.Money.{Money}
-use Rattle.content_money.specs.Money.{is-currency, dated-of, money-of, dated-normal, amount-part}
+use Rattle.content_money.specs.Money.{is-currency, dated-of, dated-normal, amount-part}
 
 -- ---- amounts
 

@@ -1,23 +1,22 @@
 -- The laws of money.
-use mathlib.Core.Path.{_≡_, refl, sym, ap, _∙_}
-use mathlib.Core.Bool.{Bool, true, false, cond, _&&_}
-use mathlib.Core.List.{List, [], _∷_, _++_}
-use Prim.Native.Nat.{ℕ, _+_, _-_, _<_, _≤_}
+use mathlib.Core.Path.{_≡_, ap, _∙_}
+use mathlib.Core.Bool.{true, cond}
+use mathlib.Core.List.{List}
+use Prim.Native.Nat.{ℕ}
 use native.Mathlib.Omega.{arith}
-use lib.Dec.{eqb, leb, ltb}
-use lib.ListN.{length, take, drop, getD}
+use lib.Dec.{ltb}
+use lib.ListN.{take, drop}
 use Rattle.std.specs.Options.{isSome}
-use Rattle.std.specs.declared.option.Option.{Option}
 use Rattle.std.specs.declared.option.Option.the-variants.{Some, None}
 use Rattle.contents.specs.Digits.{and-then}
-use Rattle.contents.specs.Amounts.{is-amount, hundredths, normal}
+use Rattle.contents.specs.Amounts.{hundredths}
 use Rattle.contents.proofs.NormalAmounts.{normal-worth}
-use Rattle.content_lines.specs.Formats.{Saying, money, tidy, Lawful}
-use Rattle.content_lines.proofs.Chosen.{after, passed, told-some}
+use Rattle.content_lines.specs.Formats.{money, Lawful}
+use Rattle.content_lines.proofs.Chosen.{after, told-some}
 use Rattle.content_lines.proofs.Shapes.{laid-line, tidy-from}
 use Rattle.content_money.specs.declared.money.Money.{Money}
 use Rattle.content_money.specs.Money.{is-currency, dated-of, money-of, dated-normal, money-format}
-use Rattle.content_money.proofs.Dated.{Dated, dated-told, dated-again, front-again, amount-part-again, dated-one-normal, dated-one-value, Bytes, dated-bytes}
+use Rattle.content_money.proofs.Dated.{dated-told, dated-again, front-again, amount-part-again, dated-one-normal, dated-one-value, dated-bytes}
 
 -- accepted money is told
 pub money-dated : (cur bs : List ℕ) → isSome (money-of cur bs) ≡ true → (m : Money) × (dated-of cur bs ≡ Some m)

@@ -1,23 +1,22 @@
 -- Statement numbers: what is read, and their laws.
 use mathlib.Core.Path.{_≡_, refl, sym, ap, _∙_}
-use mathlib.Core.Bool.{Bool, true, false, cond, _&&_, _||_}
+use mathlib.Core.Bool.{Bool, true, false, cond, _&&_}
 use mathlib.Core.Logic.{⊎-elim}
 use mathlib.Core.List.{List, [], _∷_, _++_}
-use Prim.Native.Nat.{ℕ, _+_, _-_, _^_, _<_, _≤_}
+use Prim.Native.Nat.{ℕ, _+_, _-_, _<_, _≤_}
 use native.Mathlib.Omega.{arith}
 use lib.Chars.{codes}
-use lib.Dec.{eqb, leb, ltb}
-use lib.ListN.{length, take, drop, getD}
+use lib.Dec.{eqb, ltb}
+use lib.ListN.{length, take, drop}
 use Rattle.std.specs.Options.{isSome}
 use Rattle.std.specs.Written.{decimal}
 use Rattle.std.specs.shelf.Text.{sameBytes}
-use Rattle.std.specs.declared.option.Option.{Option}
 use Rattle.std.specs.declared.option.Option.the-variants.{Some, None}
 use Rattle.std.proofs.shelf.Decimals.{decimal-value}
 use Rattle.std.proofs.shelf.Equals.{sameBytes-decides}
-use Rattle.std.proofs.shelf.Lists.{take-rest, take-at, drop-at, take-append-drop, length-append, nil-from-length, length-take-le}
+use Rattle.std.proofs.shelf.Lists.{take-rest, take-at, drop-at, take-append-drop, length-append, nil-from-length}
 use Rattle.std.proofs.shelf.Parts.{between-is}
-use Rattle.std.proofs.shelf.Tests.{cases-bool, and-parts, or-cases, eqb-true, cond-true}
+use Rattle.std.proofs.shelf.Tests.{and-parts, or-cases, eqb-true, cond-true}
 use Rattle.std.proofs.shelf.Ways.{tells}
 use Rattle.mt_text.specs.Classes.{between, digit, every, printable}
 use Rattle.contents.specs.Digits.{number, place}
@@ -25,9 +24,8 @@ use Rattle.contents.specs.Amounts.{without-leading}
 use Rattle.contents.proofs.AmountParts.{own, digits-below}
 use Rattle.contents.proofs.NormalAmounts.{Led, led}
 use Rattle.content_lines.specs.Formats as formats
-use Rattle.content_lines.specs.Formats.{Saying, tidy, Lawful}
+use Rattle.content_lines.specs.Formats.{tidy, Lawful}
 use Rattle.content_lines.proofs.Chosen.{passed, told-some}
-use Rattle.content_lines.proofs.Places.{place-within}
 use Rattle.content_lines.proofs.Shapes.{every-append, digits-printable, laid-line, tidy-from}
 use Rattle.content_money.specs.Numbers.{digits, page, is-number, number-of-digits, is-page, statement-number-of, number-format}
 

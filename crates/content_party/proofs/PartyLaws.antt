@@ -1,26 +1,26 @@
 -- The laws of parties.
 use mathlib.Core.Path.{_≡_, refl, sym, ap, _∙_, subst}
-use mathlib.Core.Bool.{Bool, true, false, cond, not, _&&_, _||_}
+use mathlib.Core.Bool.{true, false, cond, not, _&&_, _||_}
 use mathlib.Core.Logic.{_⊎_, inl, inr, ⊎-elim}
 use mathlib.Core.List.{List, [], _∷_, _++_}
-use Prim.Native.Nat.{ℕ, _+_, _-_, _<_, _≤_}
+use Prim.Native.Nat.{ℕ, _+_, _-_, _≤_}
 use native.Mathlib.Omega.{arith}
 use lib.Chars.{codes}
-use lib.Dec.{eqb, leb, ltb}
+use lib.Dec.{eqb}
 use lib.ListN.{length, take, drop, getD}
 use Rattle.std.specs.Options.{isSome}
 use Rattle.std.specs.declared.option.Option.{Option}
 use Rattle.std.specs.declared.option.Option.the-variants.{Some, None}
-use Rattle.std.proofs.shelf.Lists.{append-nil, append-assoc, take-append-drop, take-append-le, drop-append-le, take-at, take-take, take-all, length-append, length-drop, length-take, length-take-le, getD-append-left, drop-more, drop-drop}
-use Rattle.std.proofs.shelf.Tests.{cases-bool, and-parts, and-from, or-cases, eqb-true, eq-eqb, ne-eqb, eqb-false, cond-true, cond-false}
+use Rattle.std.proofs.shelf.Lists.{append-nil, append-assoc, take-append-drop, take-append-le, drop-append-le, take-take, length-append, length-drop, length-take-le, getD-append-left, drop-more}
+use Rattle.std.proofs.shelf.Tests.{cases-bool, and-parts, and-from, or-cases, eqb-true, eq-eqb, ne-eqb, cond-true, cond-false}
 use Rattle.std.proofs.shelf.Ways.{tells}
-use Rattle.mt_text.specs.Classes.{between, among, capital, alphanumeric, every, printable}
+use Rattle.mt_text.specs.Classes.{among, capital, alphanumeric, every, printable}
 use Rattle.contents.specs.Digits.{and-then, place}
-use Rattle.content_lines.specs.Formats.{Saying, party, begins, laid, tidy, Lawful}
+use Rattle.content_lines.specs.Formats.{party, begins, tidy, Lawful}
 use Rattle.content_lines.specs.Lines.{is-line, line-end, first-line, next-line, next-of, goes-on}
 use Rattle.content_lines.proofs.Chosen.{after, passed, told-some}
-use Rattle.content_lines.proofs.Places.{place-within, place-in, place-past, first-of-rest, Goes-on, goes-on-parts, next-some}
-use Rattle.content_lines.proofs.Shapes.{every-append, capitals-printable, alphanumerics-printable, laid-line, laid-on, tidy-from, Is-line, is-line-parts}
+use Rattle.content_lines.proofs.Places.{place-within, place-in, place-past, goes-on-parts, next-some}
+use Rattle.content_lines.proofs.Shapes.{every-append, capitals-printable, alphanumerics-printable, laid-line, laid-on, tidy-from, is-line-parts}
 use Rattle.content_party.specs.declared.parties.Places.{Places}
 use Rattle.content_party.specs.declared.parties.Places.the-variants.{EightOrEleven, ElevenOnly}
 use denote.Ref.{now}

@@ -1,12 +1,10 @@
-use mathlib.Core.Path.{_≡_, ap, sym, _∙_}
+use mathlib.Core.Path.{ap, sym, _∙_}
 use mathlib.Core.Bool.{_&&_}
-use native.Mathlib.Omega.{arith}
-use Rattle.std.specs.declared.option.Option.the-variants.{Some, None}
+use Rattle.std.specs.declared.option.Option.the-variants.{None}
 use Rattle.std.proofs.shelf.Tests.{cond-true, cond-false, and-from, and-left, and-right}
-use Rattle.contents.specs.Digits.{and-then}
 use Rattle.content_money.specs.Signs.{signed-of}
 use Rattle.content_entry.specs.Behind.{is-behind}
-use Rattle.content_entry.specs.Entries.{front-of, amount, behind, is-above, entry-of}
+use Rattle.content_entry.specs.Entries.{amount, behind, is-above}
 use Rattle.content_entry.proofs.Cuts.{amount-cut, behind-cut, entry-read}
 use Rattle.content_entry.proofs.entries.read_entry.Needs as need
 

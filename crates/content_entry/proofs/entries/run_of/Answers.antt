@@ -1,8 +1,6 @@
-use mathlib.Core.Path.{_≡_, sym, ap, _∙_}
 use native.Mathlib.Omega.{arith}
-use borrow.Author.Needs.{needs}
 use Rattle.std.proofs.shelf.Ways.{tells}
-use Rattle.content_entry.proofs.Steps.{run-more, run-all, run-within}
+use Rattle.content_entry.proofs.Steps.{run-more, run-all}
 use Rattle.content_entry.proofs.entries.run_of.Needs as need
 
 pub returns-then-not-is-amount-byte : need.returns-then-not-is-amount-byte

@@ -1,6 +1,6 @@
-use mathlib.Core.Path.{_≡_, refl, sym, ap, _∙_}
-use mathlib.Core.List.{List, _++_, [], _∷_}
-use Prim.Native.Nat.{ℕ, _-_, _≤_}
+use mathlib.Core.Path.{_≡_, ap, _∙_}
+use mathlib.Core.List.{List, _++_}
+use Prim.Native.Nat.{ℕ, _-_}
 use native.Mathlib.Omega.{arith}
 use borrow.Author.Needs.{needs}
 use lib.ListN.{length, take, drop}
@@ -10,7 +10,7 @@ use Rattle.contents.specs.Amounts.{is-amount, normal, normal-of}
 use Rattle.content_lines.proofs.Writing.{refused-answer, refused-buffer, wrote-answer, wrote-buffer, is-told, is-not-told}
 use Rattle.content_entry.specs.Entries.{amount-at, front, amount, behind, entry-of, entry-format}
 use Rattle.content_entry.proofs.Cuts.{amount-cut, behind-cut}
-use Rattle.content_entry.proofs.EntryLaws.{Entry, entry-is, Split, split, entry-lawful}
+use Rattle.content_entry.proofs.EntryLaws.{Entry, entry-is, split, entry-lawful}
 use Rattle.content_entry.proofs.entries.write_entry.Needs as need
 use Rattle.content_entry.proofs.entries.write_entry.Needs.{In-Some}
 

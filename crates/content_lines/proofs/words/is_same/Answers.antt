@@ -1,7 +1,5 @@
-use borrow.Author.Needs.{needs}
 use Rattle.std.proofs.shelf.Equals.{matches-decides, sameBytes-decides}
 use Rattle.std.proofs.shelf.Ways.{same-from-decides}
-use Rattle.std.specs.shelf.Text.{sameBytes}
 use Rattle.content_lines.proofs.words.is_same.Needs as need
 
 pub returns : need.returns

@@ -1,11 +1,9 @@
 use mathlib.Core.Path.{_≡_, sym, ap, _∙_}
-use native.Mathlib.Omega.{arith}
 use borrow.Author.Needs.{needs}
 use Prim.Native.Nat.{_-_}
 use lib.ListN.{length, take, drop}
 use Rattle.std.specs.declared.option.Option.the-variants.{Some, None}
 use Rattle.std.proofs.shelf.Lists.{take-rest}
-use Rattle.std.proofs.shelf.Ways.{tells}
 use Rattle.content_money.specs.Money.{dated-of}
 use Rattle.content_money.proofs.Dated.{dated-told}
 use Rattle.content_money.proofs.balances.read_balance.Needs as need

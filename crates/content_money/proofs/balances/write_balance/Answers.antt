@@ -1,22 +1,21 @@
-use mathlib.Core.Path.{_≡_, refl, sym, ap, _∙_}
-use mathlib.Core.List.{List, _++_, [], _∷_}
-use Prim.Native.Nat.{ℕ, _-_, _≤_}
+use mathlib.Core.Path.{_≡_, sym, ap, _∙_}
+use mathlib.Core.List.{_++_, _∷_}
+use Prim.Native.Nat.{_-_}
 use native.Mathlib.Omega.{arith}
 use borrow.Author.Needs.{needs}
 use mir.Syntax.{w64}
 use mir.Val.{SFits}
 use Rattle.std.proofs.shelf.Signed.{toZ-ofZ}
-use lib.ListN.{length, take, drop, getD}
-use Rattle.std.specs.declared.option.Option.the-variants.{Some, None}
+use lib.ListN.{length, take, drop}
 use Rattle.std.proofs.shelf.Lists.{take-rest}
 use Rattle.contents.specs.Amounts.{normal}
 use Rattle.content_lines.proofs.Writing.{refused-answer, refused-buffer, wrote-answer, wrote-buffer, is-told, is-not-told}
-use Rattle.content_money.specs.Money.{dated-of, amount-part}
+use Rattle.content_money.specs.Money.{amount-part}
 use Rattle.content_money.specs.Balances.{balance-of, normal-mark, balance-normal, balance-format}
 use Rattle.content_money.proofs.Dated.{dated-told, part-told}
 use Rattle.content_money.proofs.BalanceLaws.{Told, balance-told, balance-lawful, mark-written}
 use Rattle.content_money.proofs.balances.write_balance.Needs as need
-use Rattle.content_money.proofs.balances.write_balance.Needs.{In-Some, In-Some-normal-rest}
+use Rattle.content_money.proofs.balances.write_balance.Needs.{In-Some}
 
 pub returns-in-rest : need.returns-in-rest
 returns-in-rest c =

@@ -1,5 +1,4 @@
 use mathlib.Core.Path.{_≡_, sym, ap, _∙_}
-use mathlib.Core.Bool.{true}
 use Prim.Native.Nat.{ℕ, _≤_}
 use native.Mathlib.Omega.{arith}
 use lib.ListN.{length, drop}
@@ -8,7 +7,6 @@ use Rattle.std.specs.declared.option.Option.the-variants.{Some}
 use Rattle.std.proofs.shelf.Lists.{take-rest}
 use Rattle.contents.specs.Digits.{and-then}
 use Rattle.contents.specs.Amounts.{amount-of}
-use Rattle.content_money.specs.declared.money.Money.{Money}
 use Rattle.content_money.specs.Money.{dated-of}
 use Rattle.content_money.proofs.Dated.{dated-read}
 use Rattle.content_money.proofs.money.read_dated.Needs as need

@@ -1,15 +1,11 @@
-use mathlib.Core.Path.{_≡_, refl, sym, ap, _∙_}
-use mathlib.Core.Bool.{true, false}
-use mathlib.Core.List.{List, _++_, []}
-use Prim.Native.Nat.{ℕ, _≤_}
+use mathlib.Core.Path.{_≡_, ap, _∙_}
+use mathlib.Core.List.{_++_, []}
 use native.Mathlib.Omega.{arith}
-use lib.ListN.{length, take, drop}
-use Rattle.std.specs.Options.{isSome}
-use Rattle.std.specs.declared.option.Option.the-variants.{Some, None}
+use lib.ListN.{take, drop}
 use Rattle.std.proofs.shelf.Lists.{append-nil}
 use Rattle.contents.specs.Amounts.{normal}
 use Rattle.content_lines.proofs.Writing.{refused-answer, refused-buffer, wrote-answer, wrote-buffer, is-told, is-not-told}
-use Rattle.content_money.specs.Money.{money-of, amount-part, dated-normal, money-format}
+use Rattle.content_money.specs.Money.{money-of, dated-normal, money-format}
 use Rattle.content_money.proofs.Dated.{part-told}
 use Rattle.content_money.proofs.MoneyLaws.{money-lawful, money-dated}
 use Rattle.content_money.proofs.money.write_money.Needs as need

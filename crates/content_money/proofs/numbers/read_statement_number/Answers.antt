@@ -1,12 +1,8 @@
-use mathlib.Core.Path.{_≡_, sym, ap, _∙_}
+use mathlib.Core.Path.{_≡_, ap, _∙_}
 use mathlib.Core.Bool.{true, false}
 use Rattle.std.specs.declared.option.Option.the-variants.{Some}
 use Rattle.content_money.specs.Numbers.{digits, page, number-of-digits, is-page}
 use Rattle.content_money.proofs.NumberLaws.{number-cut, number-read}
-use native.Mathlib.Omega.{arith}
-use borrow.Author.Needs.{needs}
-use Rattle.std.proofs.shelf.Lists.{take-rest}
-use Rattle.std.proofs.shelf.Ways.{tells}
 use Rattle.content_money.proofs.numbers.read_statement_number.Needs as need
 
 pub returns-then-is-page : need.returns-then-is-page

@@ -1,12 +1,11 @@
-use mathlib.Core.Path.{_≡_, refl, sym, ap, _∙_}
-use mathlib.Core.List.{List, _++_, []}
-use Prim.Native.Nat.{ℕ, _-_, _≤_}
-use native.Mathlib.Omega.{arith}
+use mathlib.Core.Path.{ap}
+use mathlib.Core.List.{_++_, []}
+use Prim.Native.Nat.{_-_}
 use lib.Chars.{codes}
-use lib.ListN.{length, take, drop}
+use lib.ListN.{take, drop}
 use Rattle.content_lines.proofs.Writing.{refused-answer, refused-buffer, wrote-answer, wrote-buffer, is-told, is-not-told}
 use Rattle.content_money.specs.Numbers.{statement-number-of, number-format}
-use Rattle.content_money.proofs.NumberLaws.{number-lawful, number-cut, zeros-cut}
+use Rattle.content_money.proofs.NumberLaws.{number-lawful, zeros-cut}
 use Rattle.content_money.proofs.numbers.write_statement_number.Needs as need
 
 pub returns-in-rest : need.returns-in-rest

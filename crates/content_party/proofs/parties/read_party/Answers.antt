@@ -1,7 +1,4 @@
-use mathlib.Core.Path.{_≡_, ap, sym, _∙_}
-use native.Mathlib.Omega.{arith}
-use Rattle.std.specs.declared.option.Option.the-variants.{None}
-use Rattle.contents.specs.Digits.{and-then}
+use mathlib.Core.Path.{ap, _∙_}
 use Rattle.content_party.specs.Parties.{parts-of}
 use Rattle.content_party.proofs.PartyLaws.{no-second}
 use Rattle.content_party.proofs.parties.read_party.Needs as need

@@ -1,8 +1,5 @@
-use mathlib.Core.Path.{_≡_, refl, ap, sym, _∙_}
-use mathlib.Core.List.{List, [], _++_}
-use native.Mathlib.Omega.{arith}
-use Rattle.std.specs.Options.{isSome}
-use Rattle.std.specs.declared.option.Option.the-variants.{None}
+use mathlib.Core.Path.{_≡_, ap, _∙_}
+use mathlib.Core.List.{[], _++_}
 use Rattle.std.proofs.shelf.Lists.{append-nil}
 use Rattle.content_lines.proofs.Writing.{refused-answer, refused-buffer, wrote-answer, wrote-buffer, is-not-told}
 use Rattle.content_party.specs.Parties.{party-of, code-part, filling, party-format}
