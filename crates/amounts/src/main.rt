@@ -1,5 +1,7 @@
 //! Reads amounts from standard input, one to a line. Prints for each line the normal amount, a
 //! space and its hundredths, or `refused`; and last how many lines were accepted and refused.
+#![tactic(auto)]
+
 mod line;
 
 use contents::{MAX_AMOUNT, write_normal_amount};

@@ -1,4 +1,5 @@
 //! Books: records under keys, in order of arrival, for each account apart.
+#![tactic(auto)]
 
 mod book;
 mod calls;

@@ -1,4 +1,5 @@
 //! Scripts of calls on books, against answers worked out by hand.
+#![tactic(auto)]
 
 #[cfg(test)]
 mod keys;

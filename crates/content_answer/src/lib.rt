@@ -1,4 +1,5 @@
 //! Field formats of answers and related messages.
+#![tactic(auto)]
 
 mod answers;
 mod days;

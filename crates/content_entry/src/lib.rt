@@ -1,4 +1,5 @@
 //! The field format of a statement entry.
+#![tactic(auto)]
 
 mod behind;
 mod entries;

@@ -1,4 +1,5 @@
 //! Field formats made of whole lines, and what every field format owes.
+#![tactic(auto)]
 
 mod customers;
 mod lines;

@@ -4,7 +4,7 @@ use Rattle.std.proofs.lemmas.List.{length-drop, drop_more}
 use Rattle.std.proofs.lemmas.Bool.{cases_Bool, eqb-true, eqb-false, eq-eqb, cond-true, cond-false}
 use Rattle.mt_text.specs.Classes.{every, printable}
 use Rattle.contents.specs.Digits.{and_then}
-use Rattle.contents.specs.Amounts.{hundredths, normal}
+use Rattle.contents.specs.Amounts.{hundredths}
 use Rattle.content_lines.specs.Formats.{balance, Lawful}
 use Rattle.content_lines.proofs.Chosen.{after, passed, told_some}
 use Rattle.content_lines.proofs.Shapes.{laid_line, tidy_from}

@@ -1,4 +1,5 @@
 //! Field formats of amounts and numbers: money, balances, statement numbers.
+#![tactic(auto)]
 
 mod balances;
 mod examples;

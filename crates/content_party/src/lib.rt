@@ -1,4 +1,5 @@
 //! The field format of a party: an account line, which may be absent, and a bank code.
+#![tactic(auto)]
 
 mod parties;
 

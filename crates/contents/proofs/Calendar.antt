@@ -1,9 +1,9 @@
 -- Days in the order of the calendar, and by their count.
-use Rattle.std.proofs.Common.{◌≡◌, ℕ, zero, suc, ◌+◌, ◌-◌, ◌<◌, ◌≤◌, Bool, true, false, cond, ◌&&◌, ◌||◌, eqb, ltb, leb, ◌⊎◌, sym, refl, ap, ◌∙◌, inl, inr, ⊎_elim, arith}
+use Rattle.std.proofs.Common.{◌≡◌, ℕ, zero, suc, ◌+◌, ◌-◌, ◌<◌, ◌≤◌, Bool, true, false, cond, sym, refl, ap, ⊎_elim, arith}
 use Rattle.std.proofs.lemmas.Bool.{cases_lt, cases_order}
 use Rattle.std.proofs.lemmas.Bool.Decides.{nat_tests}
 use Rattle.contents.specs.declared.dates.Date.{Date}
-use Rattle.contents.specs.Dates.{leap, days_in, year_length, before, is_real, days_of_years, days_of_months, day_count, ComparesAsDays}
+use Rattle.contents.specs.Dates.{leap, days_in, year_length, is_real, days_of_years, days_of_months, day_count, ComparesAsDays}
 
 -- ---- a count that grows by so much with each step
 

@@ -1,14 +1,14 @@
 -- The laws of normal amounts.
-use Rattle.std.proofs.Common.{◌≡◌, ℕ, zero, suc, ◌+◌, ◌-◌, ◌*◌, ◌/◌, ◌%◌, ◌^◌, ◌<◌, ◌≤◌, Bool, true, false, cond, ◌&&◌, eqb, ltb, leb, List, [], ◌∷◌, ◌++◌, length, get_or, take, drop, Some, None, decimal, sym, refl, ap, ◌∙◌, ⊎_elim, arith}
+use Rattle.std.proofs.Common.{◌≡◌, ℕ, ◌+◌, ◌-◌, ◌*◌, ◌/◌, ◌%◌, ◌^◌, ◌<◌, ◌≤◌, Bool, true, false, cond, ◌&&◌, eqb, ltb, List, [], ◌∷◌, ◌++◌, length, get_or, take, drop, Some, None, decimal, sym, refl, ap, ◌∙◌, arith}
 use Rattle.std.proofs.lemmas.Fmt.{decimal-digits_value}
 use Rattle.std.proofs.lemmas.List.{take_at, drop_at, drop-drop, length-append}
-use Rattle.std.proofs.lemmas.Bool.{cases_Bool, and_parts, eqb-true, cond-true}
+use Rattle.std.proofs.lemmas.Bool.{and_parts, cond-true}
 use Rattle.std.proofs.lemmas.Bool.Decides.{nat_tests}
 use Rattle.mt_text.specs.Classes.{digit, every}
 use Rattle.contents.specs.Digits.{number_after, number, place}
-use Rattle.contents.specs.Amounts.{comma, whole, decimals, comma_fits, is_amount, without_leading, without_trailing, normal, hundredths, amount_of}
-use Rattle.contents.specs.AmountLaws.{NormalKeeps, NormalTells, NormalLaws}
-use Rattle.contents.proofs.AmountParts.{own, Parts, parts, Worth, worth, digits_below}
+use Rattle.contents.specs.Amounts.{whole, decimals, comma_fits, is_amount, without_leading, without_trailing, normal, hundredths}
+use Rattle.contents.specs.AmountLaws.{NormalLaws}
+use Rattle.contents.proofs.AmountParts.{own, parts, worth}
 
 -- ---- zeros in front
 

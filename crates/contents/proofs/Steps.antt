@@ -6,7 +6,7 @@ use Rattle.std.proofs.lemmas.List.{at_drop_more, at_drop_all, drop_more, take_mo
 use Rattle.std.proofs.lemmas.Bool.{cases_lt}
 use Rattle.std.proofs.lemmas.Bool.Decides.{nat_tests}
 use Rattle.mt_text.specs.Classes.{digit, every}
-use Rattle.contents.specs.Digits.{number_after, number, place}
+use Rattle.contents.specs.Digits.{number_after, place}
 use Rattle.contents.specs.Amounts.{without_leading, without_trailing}
 
 -- ---- where a byte stands

@@ -1,4 +1,5 @@
 //! The contents of fields: one file per format, each with what it accepts and what it means.
+#![tactic(auto)]
 
 mod amounts;
 mod dates;

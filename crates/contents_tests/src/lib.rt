@@ -1,4 +1,5 @@
 //! Tests of `contents`, with expectations worked out by hand from docs/RULES.md.
+#![tactic(auto)]
 
 #[cfg(test)]
 mod tests {

@@ -1,19 +1,17 @@
 -- What the body_at accepts is written as a body is.
-use Rattle.std.proofs.Common.{◌≡◌, ℕ, zero, suc, ◌+◌, ◌-◌, ◌<◌, ◌≤◌, Bool, true, false, cond, not, ◌&&◌, ◌||◌, eqb, ◌⊎◌, List, [], ◌∷◌, ◌++◌, map, length, get_or, take, drop, Some, None, Ok, Err, Option, Result, sym, refl, ap, ◌∙◌, subst, inl, inr, ⊎_elim, arith}
-use Rattle.std.proofs.lemmas.List.{length-drop, length-append, drop-drop, drop_at, take_at}
+use Rattle.std.proofs.Common.{◌≡◌, ℕ, zero, suc, ◌+◌, ◌-◌, ◌≤◌, Bool, true, false, cond, ◌&&◌, eqb, ◌⊎◌, List, [], ◌∷◌, ◌++◌, length, get_or, take, drop, Some, None, Ok, Err, Option, Result, sym, refl, ap, ◌∙◌, subst, inl, inr, ⊎_elim, arith}
+use Rattle.std.proofs.lemmas.List.{length-drop, drop-drop}
 use Rattle.std.proofs.lemmas.Bool.{cases_Bool, eqb-true}
 use Rattle.std.proofs.lemmas.Bool.Decides.{nat_tests}
-use Rattle.std.specs.List.{AllByRecursion as All}
 use Rattle.mt_text.specs.Classes.{digit, capital}
 use Rattle.mt_text.specs.Refusals.{Refusal, refused_at}
 use Rattle.fields.specs.declared.tags.Tag.{Tag}
 use Rattle.fields.specs.declared.scan.Field.{Field}
-use Rattle.fields.specs.declared.scan.Body.{Body}
 use Rattle.fields.specs.declared.scan.Next.{Next}
 use Rattle.fields.specs.declared.scan.Next.TheVariants.{More, End}
-use Rattle.fields.specs.Tags.{tag_at, letter_width, width}
-use Rattle.fields.specs.Fields.{Found, barred, opens, content_end, field_to, with_end, tagged, next_at, behind, with_field, step_then, body_within, body_at, sized}
-use Rattle.fields.specs.Written.{Item, letter_ok, tag_ok, content_ok, ItemOk, letter_then, field_then, written, shown, Finds, RoundTrip, Reads, Accepted}
+use Rattle.fields.specs.Tags.{tag_at, width}
+use Rattle.fields.specs.Fields.{Found, barred, opens, content_end, field_to, with_end, tagged, next_at, behind, with_field, step_then, body_within}
+use Rattle.fields.specs.Written.{Item, tag_ok, content_ok, ItemOk, letter_then, field_then, shown, Reads, Accepted}
 use Rattle.fields.proofs.Trips.{at_after, is_shown}
 use Rattle.fields.proofs.Bodies.{more_within}
 

@@ -1,16 +1,14 @@
 -- The body_at of a whole body, one field on.
-use Rattle.std.proofs.Common.{◌≡◌, ℕ, suc, ◌+◌, ◌-◌, ◌<◌, ◌≤◌, Bool, true, false, cond, eqb, List, [], ◌∷◌, ◌++◌, length, get_or, drop, Some, None, Ok, Err, Option, Result, sym, refl, ap, ◌∙◌, subst, arith}
+use Rattle.std.proofs.Common.{◌≡◌, ℕ, suc, ◌+◌, ◌-◌, ◌<◌, ◌≤◌, Bool, true, false, cond, eqb, List, length, get_or, drop, Some, None, Ok, Err, Option, Result, sym, refl, ap, ◌∙◌, arith}
 use Rattle.std.proofs.lemmas.List.{length-drop}
-use Rattle.std.proofs.lemmas.Bool.Decides.{nat_tests}
-use Rattle.mt_text.specs.Classes.{digit, capital}
 use Rattle.mt_text.specs.Refusals.{Refusal, refused_at}
 use Rattle.fields.specs.declared.tags.Tag.{Tag}
 use Rattle.fields.specs.declared.scan.Field.{Field}
 use Rattle.fields.specs.declared.scan.Body.{Body}
 use Rattle.fields.specs.declared.scan.Next.{Next}
 use Rattle.fields.specs.declared.scan.Next.TheVariants.{More, End}
-use Rattle.fields.specs.Tags.{tag_at, letter_width, width}
-use Rattle.fields.specs.Fields.{Found, barred, opens, content_end, field_to, with_end, tagged, next_at, behind, with_field, step_then, body_within, body_at, sized}
+use Rattle.fields.specs.Tags.{tag_at, width}
+use Rattle.fields.specs.Fields.{Found, content_end, field_to, with_end, tagged, next_at, behind, with_field, step_then, body_within, body_at, sized}
 use Rattle.fields.proofs.Steps.{end_within, tag_within}
 
 ended : (i : ℕ) (bs : List ℕ) (t : Tag) (f : Field) (r : Result ℕ Refusal) → width t ≤ length bs → content_end i (i + width t) (drop (width t) bs) ≡ r → with_end (field_to i t) r ≡ Ok (More f) → (i < behind f) × (behind f ≤ i + length bs)

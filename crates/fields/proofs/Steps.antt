@@ -1,17 +1,13 @@
 -- The body_at of a content, one step on, in the code's words.
-use Rattle.std.proofs.Common.{◌≡◌, ℕ, suc, ◌+◌, ◌-◌, ◌<◌, ◌≤◌, Bool, true, false, cond, eqb, List, [], ◌∷◌, ◌++◌, length, get_or, drop, Some, None, Ok, Err, Result, sym, refl, ap, ◌∙◌, subst, add-zero, arith}
+use Rattle.std.proofs.Common.{◌≡◌, ℕ, ◌+◌, ◌-◌, ◌<◌, ◌≤◌, Bool, true, false, cond, eqb, List, [], ◌∷◌, length, get_or, drop, Some, Ok, Result, sym, refl, ap, ◌∙◌, add-zero, arith}
 use Rattle.std.proofs.lemmas.List.{drop-drop, get_or-drop, get_or_past, length-drop, at_drop_all}
 use Rattle.std.proofs.lemmas.Bool.Decides.{nat_tests}
 use Rattle.std.proofs.lemmas.Bool.{cond-false, ne_eqb}
-use Rattle.mt_text.specs.Classes.{digit, capital}
 use Rattle.mt_text.specs.Refusals.{Refusal, refused_at}
 use Rattle.fields.specs.declared.tags.Tag.{Tag}
-use Rattle.fields.specs.declared.scan.Field.{Field}
-use Rattle.fields.specs.declared.scan.Body.{Body}
-use Rattle.fields.specs.declared.scan.Next.{Next}
 use Rattle.fields.specs.declared.scan.Next.TheVariants.{More, End}
-use Rattle.fields.specs.Tags.{tag_at, letter_width, width}
-use Rattle.fields.specs.Fields.{Found, barred, opens, content_end, field_to, with_end, tagged, next_at, behind, with_field, step_then, body_within, body_at, sized}
+use Rattle.fields.specs.Tags.{tag_at, width}
+use Rattle.fields.specs.Fields.{barred, opens, content_end, field_to, with_end, tagged, next_at}
 
 -- one step of `content_end`, read by offsets into what is left; 0 stands past the end
 step : ℕ → ℕ → List ℕ → Result ℕ Refusal

@@ -1,4 +1,5 @@
 //! Block 4 of a text: its lines, tags and fields, from `{4:` CR LF to `-}`.
+#![tactic(auto)]
 
 mod scan;
 mod tags;

@@ -1,6 +1,6 @@
 -- Block 3, the user header: {3: items }, the items 108, 111, 113 and 121 in any order, each at most once, at least one.
 -- `bs` is what is left of the text from offset `i` on.
-use Rattle.std.specs.Prelude.{ℕ, zero, suc, ◌+◌, Bool, true, cond, not, ◌&&◌, ◌||◌, List, [], ◌∷◌, length, take, drop, is_some, Some, None, codes, Option, ◌==◌, nat_lt, slice_index}
+use Rattle.std.specs.Prelude.{ℕ, zero, suc, ◌+◌, Bool, true, cond, ◌&&◌, ◌||◌, List, [], ◌∷◌, length, take, drop, is_some, Some, None, codes, Option, ◌==◌, nat_lt, slice_index}
 use Rattle.mt_text.specs.Classes.{between, among, every, digit, printable, letter_or_digit}
 use Rattle.contents.specs.Digits.{place, and_then}
 use Rattle.headers.specs.declared.user.Span.{Span}

@@ -1,4 +1,5 @@
 //! Blocks 1, 2, 3 and 5 of a text: the headers and the trailer.
+#![tactic(auto)]
 
 mod application;
 mod basic;

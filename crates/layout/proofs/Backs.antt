@@ -1,8 +1,8 @@
 -- The parts that are found in a text are as they must be.
-use Rattle.std.proofs.Common.{◌≡◌, ℕ, zero, suc, ◌+◌, ◌-◌, ◌<◌, ◌≤◌, Bool, true, false, cond, ◌||◌, eqb, ltb, List, [], ◌∷◌, ◌++◌, length, get_or, take, drop, is_some, Some, None, Ok, Err, codes, Option, Result, sym, refl, ap, ◌∙◌, subst, ⊎_elim, arith}
+use Rattle.std.proofs.Common.{◌≡◌, ℕ, zero, suc, ◌+◌, ◌-◌, ◌≤◌, Bool, true, false, cond, ◌||◌, eqb, ltb, List, [], ◌∷◌, ◌++◌, length, get_or, take, drop, is_some, Some, None, Ok, Err, codes, Option, Result, sym, refl, ap, ◌∙◌, subst, arith}
 use Rattle.std.specs.Option.{option_map}
 use Rattle.std.proofs.lemmas.List.{drop-drop, length-drop}
-use Rattle.std.proofs.lemmas.Bool.{or_left, or_right, cases_lt}
+use Rattle.std.proofs.lemmas.Bool.{or_left, or_right}
 use Rattle.mt_text.specs.Refusals.{Refusal, refused_at}
 use Rattle.contents.specs.Digits.{and_then}
 use Rattle.headers.specs.declared.user.Span.{Span}
@@ -27,9 +27,9 @@ use Rattle.fields.specs.Written.{ItemOk}
 use Rattle.fields.proofs.Backs.{accepted as fields-accepted}
 use Rattle.layout.specs.declared.walk.Layout.{Layout}
 use Rattle.layout.specs.declared.walk.Opening.{Opening}
-use Rattle.layout.specs.Walk.{heed, wanted, opened, application_at, opening_at, body_start, end_at, made_of, walked, laid_out}
+use Rattle.layout.specs.Walk.{heed, wanted, opened, application_at, opening_at, body_start, end_at, made_of, walked}
 use Rattle.layout.specs.Render.{value_fits, UserOk, user_fits, bytes_at, values_of, fields_of, parts_of, PartsOk, Accepted}
-use Rattle.layout.proofs.UserTrips.{slot, putted}
+use Rattle.layout.proofs.UserTrips.{putted}
 
 -- ---- the values of block 3
 

@@ -1,14 +1,14 @@
 -- A text as it is written from well-formed parts is laid out into these parts.
-use Rattle.std.proofs.Common.{◌≡◌, ℕ, ◌+◌, ◌-◌, ◌<◌, ◌≤◌, Bool, true, false, cond, ◌&&◌, ◌||◌, eqb, ltb, List, [], ◌∷◌, ◌++◌, map, length, take, drop, Some, None, Ok, Err, codes, Option, Result, sym, refl, ap, ◌∙◌, subst, ⊎_elim, arith}
+use Rattle.std.proofs.Common.{◌≡◌, ℕ, ◌+◌, ◌-◌, ◌≤◌, true, false, cond, eqb, ltb, List, [], ◌∷◌, ◌++◌, map, length, take, drop, Some, None, Ok, codes, Option, sym, refl, ap, ◌∙◌, subst, ⊎_elim, arith}
 use Rattle.std.specs.Option.{option_map}
 use Rattle.std.specs.List.{AllByRecursion as All}
-use Rattle.std.proofs.lemmas.List.{take_at, drop_at, drop-drop, take-append-drop, length-take-le, length-drop, length-append}
-use Rattle.std.proofs.lemmas.Bool.{and_parts, and_left, and_right, eqb-true, or_cases, eq-eqb}
-use Rattle.mt_text.specs.Refusals.{Refusal, refused_at}
+use Rattle.std.proofs.lemmas.List.{take_at, drop_at, drop-drop, take-append-drop, length-take-le, length-drop}
+use Rattle.std.proofs.lemmas.Bool.{and_parts, and_left, and_right, eqb-true, or_cases}
+use Rattle.mt_text.specs.Refusals.{refused_at}
 use Rattle.headers.specs.declared.application.Application.{Application}
 use Rattle.headers.specs.declared.application.Direction.TheVariants.{Input, Output}
-use Rattle.headers.specs.Parts.{cut, starts}
-use Rattle.headers.specs.Basic.{is_basic, is_address}
+use Rattle.headers.specs.Parts.{starts}
+use Rattle.headers.specs.Basic.{is_basic}
 use Rattle.headers.specs.Application.{is_input, is_output, type_of, application_of}
 use Rattle.headers.specs.User.{nothing, steps_within, user_at}
 use Rattle.headers.specs.Trailer.{is_trailer}
@@ -17,10 +17,9 @@ use Rattle.fields.specs.declared.scan.Body.{Body}
 use Rattle.fields.specs.Fields.{Found, body_at, sized}
 use Rattle.fields.specs.Written.{Item, ItemOk, written, shown, Finds}
 use Rattle.fields.proofs.Trips.{round_trip as fields-trip}
-use Rattle.layout.specs.declared.walk.Layout.{Layout}
 use Rattle.layout.specs.declared.walk.Opening.{Opening}
-use Rattle.layout.specs.Walk.{heed, wanted, opened, application_at, opening_at, body_start, end_at, made_of, walked, laid_out}
-use Rattle.layout.specs.Render.{User, Parts, user_then, rendered, user_fits, WellFormed, values_of, fields_of, parts_of, LaysOut, RoundTrip}
+use Rattle.layout.specs.Walk.{heed, wanted, opened, application_at, opening_at, body_start, end_at, made_of, walked}
+use Rattle.layout.specs.Render.{User, Parts, user_then, rendered, user_fits, WellFormed, values_of, fields_of, LaysOut, RoundTrip}
 use Rattle.layout.proofs.UserTrips.{h4, i4, values_are, all_items, all_behind}
 
 -- ---- block 2 and what follows it

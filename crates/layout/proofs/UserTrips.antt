@@ -1,21 +1,19 @@
 -- Block 3 as it is written is read as it was meant.
-use Rattle.std.proofs.Common.{◌≡◌, ℕ, zero, suc, ◌+◌, ◌-◌, ◌<◌, ◌≤◌, Bool, true, false, cond, ◌&&◌, ◌||◌, eqb, ltb, List, [], ◌∷◌, ◌++◌, length, get_or, take, drop, is_some, Some, None, codes, Option, sym, refl, ap, ◌∙◌, subst, zero-add, one-add, arith}
+use Rattle.std.proofs.Common.{◌≡◌, ℕ, suc, ◌+◌, ◌-◌, ◌≤◌, Bool, true, false, cond, ◌||◌, eqb, List, [], ◌∷◌, ◌++◌, length, get_or, take, drop, is_some, Some, None, codes, Option, sym, refl, ap, ◌∙◌, zero-add, one-add, arith}
 use Rattle.std.specs.Option.{option_map}
-use Rattle.std.proofs.lemmas.List.{drop-drop, drop_at, take_at, length-append, length-drop}
-use Rattle.std.proofs.lemmas.Bool.{and_parts, cond-true, lt-ltb}
+use Rattle.std.proofs.lemmas.List.{drop-drop, drop_at, take_at, length-append}
+use Rattle.std.proofs.lemmas.Bool.{and_parts}
 use Rattle.std.proofs.lemmas.Bool.Decides.{nat_tests}
 use Rattle.mt_text.specs.Classes.{every, digit, printable, letter_or_digit}
-use Rattle.contents.specs.Digits.{place, and_then}
+use Rattle.contents.specs.Digits.{place}
 use Rattle.headers.specs.declared.user.Span.{Span}
 use Rattle.headers.specs.declared.user.UserHeader.{UserHeader}
-use Rattle.headers.specs.declared.user.UserBlock.{UserBlock}
 use Rattle.headers.specs.declared.user.Item.{Item}
 use Rattle.headers.specs.declared.user.Item.TheVariants.{UserReference, ServiceType, Priority, Tracking}
 use Rattle.headers.specs.declared.user.Step.TheVariants.{More, Closed}
-use Rattle.headers.specs.Parts.{starts}
-use Rattle.headers.specs.User.{small_hex, hyphen_place, tracked, value_ok, item_of, put_in, nothing, is_given, value_length, closed_at, taken_at, step_at, steps_then, steps_within, user_at}
+use Rattle.headers.specs.User.{small_hex, hyphen_place, tracked, value_ok, item_of, put_in, nothing, is_given, step_at, steps_then, steps_within}
 use Rattle.headers.proofs.Steps.{placed}
-use Rattle.layout.specs.Render.{User, item_then, user_then, value_fits, UserOk, bytes_at, values_of}
+use Rattle.layout.specs.Render.{User, item_then, value_fits, UserOk, bytes_at, values_of}
 
 -- ---- no value holds a brace
 

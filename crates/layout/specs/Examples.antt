@@ -1,8 +1,7 @@
 -- Worked examples of layouts, each computed from the definitions.
 use Rattle.std.specs.Prelude.{◌≡◌, ℕ, List, [], ◌∷◌, ◌++◌, Some, None, Ok, codes}
 use Rattle.mt_text.specs.Refusals.{refused_at}
-use Rattle.headers.specs.declared.application.Direction.TheVariants.{Input, Output}
-use Rattle.fields.specs.Written.{Item}
+use Rattle.headers.specs.declared.application.Direction.TheVariants.{Input}
 use Rattle.layout.specs.Walk.{laid_out}
 use Rattle.layout.specs.Render.{Parts, WellFormed, rendered}
 

@@ -1,5 +1,5 @@
 -- A text as it is written from its parts, and that laying it out gives these parts back.
-use Rattle.std.specs.Prelude.{◌≡◌, ℕ, ◌+◌, ◌-◌, Bool, true, cond, ◌&&◌, ◌||◌, List, [], ◌∷◌, ◌++◌, map, length, take, drop, is_some, Some, None, Ok, Err, codes, Option, Result}
+use Rattle.std.specs.Prelude.{◌≡◌, ℕ, ◌-◌, true, cond, ◌||◌, List, [], ◌∷◌, ◌++◌, map, take, drop, is_some, Some, None, Ok, Err, codes, Option, Result}
 use Rattle.std.specs.Option.{option_map}
 use Rattle.std.specs.List.{AllByRecursion as All}
 use Rattle.mt_text.specs.Classes.{small}

@@ -1,5 +1,5 @@
 -- The walk over a text from the left: the first part that is not as it must be is refused, where it begins.
-use Rattle.std.specs.Prelude.{ℕ, ◌+◌, Bool, cond, List, [], ◌∷◌, ◌++◌, length, take, drop, Some, None, Ok, Err, codes, Option, Result, ◌==◌, nat_lt}
+use Rattle.std.specs.Prelude.{ℕ, ◌+◌, cond, List, [], ◌∷◌, ◌++◌, length, take, drop, Some, None, Ok, Err, codes, Option, Result, ◌==◌, nat_lt}
 use Rattle.mt_text.specs.Refusals.{Refusal, refused_at}
 use Rattle.mt_text.specs.Bytes.{checked}
 use Rattle.headers.specs.declared.application.Application.{Application}

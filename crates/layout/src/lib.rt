@@ -1,4 +1,5 @@
 //! The layout of a whole text: one walk from the left over its blocks and lines.
+#![tactic(auto)]
 
 mod examples;
 mod walk;

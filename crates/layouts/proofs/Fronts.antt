@@ -1,10 +1,10 @@
 -- The first 10,001 bytes of a text.
-use Rattle.std.proofs.Common.{◌≡◌, ℕ, ◌+◌, ◌<◌, ◌≤◌, Bool, true, false, cond, ◌||◌, eqb, ltb, List, [], ◌∷◌, ◌++◌, length, take, set, sym, refl, ap, ◌∙◌, ⊎_elim, arith}
+use Rattle.std.proofs.Common.{◌≡◌, ℕ, ◌+◌, ◌<◌, true, ◌||◌, eqb, ltb, List, [], ◌∷◌, ◌++◌, length, take, set, sym, ap, ◌∙◌, ⊎_elim, arith}
 use Rattle.std.proofs.lemmas.List.{take_more_set, take_all, take_at, length-take-le, length_push}
 use Rattle.std.proofs.lemmas.Bool.{cases_lt, cond-true}
 use Rattle.std.proofs.lemmas.Bool.Decides.{nat_tests}
 use Rattle.mt_text.specs.Refusals.{refused_at}
-use Rattle.mt_text.specs.Bytes.{checked, foreign_from}
+use Rattle.mt_text.specs.Bytes.{foreign_from}
 use Rattle.layout.specs.Walk.{heed, walked, laid_out}
 
 module _ (bs : List ℕ) (n b : ℕ) (long : length bs ≡ 10001) where

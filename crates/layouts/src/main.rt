@@ -11,6 +11,8 @@
 //!
 //! An empty line is the empty text. A line with another escape is `unreadable`. A line that begins
 //! with `#` is a comment, and printed as it is.
+#![tactic(auto)]
+
 mod escape;
 mod kept;
 

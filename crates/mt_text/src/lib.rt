@@ -1,4 +1,5 @@
 //! The text of one message: its bytes and the refusals that every layer speaks in.
+#![tactic(auto)]
 
 mod bytes;
 mod classes;

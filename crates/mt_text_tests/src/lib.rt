@@ -1,4 +1,5 @@
 //! Tests of `mt_text`, with expectations worked out by hand from docs/RULES.md.
+#![tactic(auto)]
 
 #[cfg(test)]
 mod tests {

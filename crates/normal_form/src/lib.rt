@@ -1,4 +1,5 @@
 //! The normal form of a sound text, and the law of normal forms.
+#![tactic(auto)]
 
 mod laws;
 

@@ -1,4 +1,5 @@
 //! The reader: what a text's fields are by the rows of a module, what they tell, and whether the text is sound.
+#![tactic(auto)]
 
 mod interface;
 mod rows;

@@ -9,7 +9,7 @@ pub returns-in-Some : goal.returns-in-Some
 returns-in-Some c =
     let g = next_some c.args.bytes.now _ c.in-Some.ensures in
     let g0 = g.0 in
-    let n = c.is-digits.ensures ∙ ap (digits 10) g.1 in
-    let f = c.first-end.ensures.is in
-    let d = c.if-not-is-date.ensures ∙ ap (λ l. is_some (date_of l)) c.first_line.ensures in
+    let n = c.is_digits.ensures ∙ ap (digits 10) g.1 in
+    let f = c.first_end.ensures.is in
+    let d = c.if-not-is_date.ensures ∙ ap (λ l. is_some (date_of l)) c.first_line.ensures in
     grind (arith, nat_tests)

@@ -9,5 +9,5 @@ returns-in-Some c =
     let g = next_some c.args.content.now _ c.in-Some.ensures in
     let g0 = g.0 in
     let n = c.is_day.ensures ∙ ap is_day g.1 in
-    let d = c.if-not-is-digits.ensures ∙ ap (digits 3) c.first_line.ensures in
+    let d = c.if-not-is_digits.ensures ∙ ap (digits 3) c.first_line.ensures in
     grind (arith, nat_tests)

@@ -4,8 +4,8 @@ use Rattle.std.proofs.lemmas.Bool.Decides.{nat_tests}
 use Rattle.content_entry.specs.Behind.{is_rest}
 use Rattle.content_entry.proofs.behind.is_behind.Goals as goal
 
-pub returns-then-is-type : goal.returns-then-is-type
-returns-then-is-type c =
+pub returns-then-is_type : goal.returns-then-is_type
+returns-then-is_type c =
     let e = c.is_rest.ensures ∙ ap is_rest (take_rest c.args.bytes.now 4) in
-    let f = c.if-is-type.ensures in
+    let f = c.if-is_type.ensures in
     grind (arith, nat_tests)

@@ -10,6 +10,6 @@ returns-in-Some c =
     let g = next_some c.args.bytes.now _ c.in-Some.ensures in
     let g0 = g.0 in
     let n = c.is_line.ensures ∙ ap (is_line 34) g.1 in
-    let f = c.first-end.ensures.is in
-    let d = c.if-not-is-references.ensures ∙ ap is_references c.first_line.ensures in
+    let f = c.first_end.ensures.is in
+    let d = c.if-not-is_references.ensures ∙ ap is_references c.first_line.ensures in
     grind (arith, nat_tests)

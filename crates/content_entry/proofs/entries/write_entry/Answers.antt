@@ -8,9 +8,9 @@ use Rattle.content_entry.proofs.EntryLaws.{Entry, entry_is, split, entry_lawful}
 use Rattle.content_entry.proofs.entries.write_entry.Goals as goal
 use Rattle.content_entry.proofs.entries.write_entry.Goals.{In-Some}
 
-pub returns-in-default : goal.returns-in-default
-returns-in-default c =
-    let no' = is_not_told (entry_of c.args.content.now) c.in-default.ensures in
+pub returns-in_default : goal.returns-in_default
+returns-in_default c =
+    let no' = is_not_told (entry_of c.args.content.now) c.in_default.ensures in
     record {
       answer = refused_answer entry_format c.args.content.now c.args.buffer.now no';
       buffer = refused_buffer entry_format c.args.content.now c.args.buffer.now no';
@@ -24,17 +24,17 @@ read c = entry_is c.args.content.now (is_told (entry_of c.args.content.now) _ c.
 normal_told : (bs : List ℕ) → Entry bs → normal_of (amount bs) ≡ Some (normal (amount bs))
 normal_told bs e = cond-true (is_amount (amount bs)) (Some (normal (amount bs))) None e.is
 
-pub returns-in-default-normal-amount : goal.returns-in-default-normal-amount
-returns-in-default-normal-amount c =
+pub returns-in_default-normal_amount : goal.returns-in_default-normal_amount
+returns-in_default-normal_amount c =
     let bs = c.args.content.now in
-    let e = c.in-default-normal-amount.ensures ∙ ap normal_of (amount_cut bs _ _ c.from-amount-rest.ensures c.run-of-size.ensures.is) ∙ normal_told bs (read (goal.at.returns-in-default-normal-amount c).In-Some) in
+    let e = c.in_default-normal_amount.ensures ∙ ap normal_of (amount_cut bs _ _ c.from_amount-rest.ensures c.run_of-size.ensures.is) ∙ normal_told bs (read (goal.at.returns-in_default-normal_amount c).In-Some) in
     absurd (grind arith)
 
-pub slice-bounds-put-parts-end : goal.slice-bounds-put-parts-end
-slice-bounds-put-parts-end c =
+pub slice_bounds-put_parts-end : goal.slice_bounds-put_parts-end
+slice_bounds-put_parts-end c =
     let bs = c.args.content.now in
-    let s = (split bs (read (goal.at.slice-bounds-put-parts-end c).In-Some)).within in
-    let a = c.amount-start-start.ensures in
+    let s = (split bs (read (goal.at.slice_bounds-put_parts-end c).In-Some)).within in
+    let a = c.amount_start-start.ensures in
     search rules
 
 pub returns : goal.returns
@@ -42,16 +42,16 @@ returns c =
     let bs = c.args.content.now in
     let x = read (goal.at.returns c).In-Some in
     let yes' = is_told (entry_of bs) _ c.in-Some.ensures in
-    let k = c.amount-start-start.result in
-    let r = c.from-amount-rest.result.now in
-    let z = c.run-of-size.result in
-    let e = c.in-Some-normal-amount.ensures ∙ ap normal_of (amount_cut bs _ _ c.from-amount-rest.ensures c.run-of-size.ensures.is) ∙ normal_told bs x in
-    let n : c.in-Some-normal-amount.amount.now ≡ normal (amount bs) = cc in
-    let s : k - 0 ≡ amount_at bs = omega (arith, c.amount-start-start.ensures) in
-    let b = behind_cut bs r z c.from-amount-rest.ensures c.run-of-size.ensures.is in
-    let parts : take (k - 0) bs ++ (c.in-Some-normal-amount.amount.now ++ take (length r - z) (drop z r)) ≡ front bs ++ (normal (amount bs) ++ behind bs) = (λ i. take (s i) bs ++ (n i ++ b i)) in
+    let k = c.amount_start-start.result in
+    let r = c.from_amount-rest.result.now in
+    let z = c.run_of-size.result in
+    let e = c.in-Some-normal_amount.ensures ∙ ap normal_of (amount_cut bs _ _ c.from_amount-rest.ensures c.run_of-size.ensures.is) ∙ normal_told bs x in
+    let n : c.in-Some-normal_amount.amount.now ≡ normal (amount bs) = cc in
+    let s : k - 0 ≡ amount_at bs = omega (arith, c.amount_start-start.ensures) in
+    let b = behind_cut bs r z c.from_amount-rest.ensures c.run_of-size.ensures.is in
+    let parts : take (k - 0) bs ++ (c.in-Some-normal_amount.amount.now ++ take (length r - z) (drop z r)) ≡ front bs ++ (normal (amount bs) ++ behind bs) = (λ i. take (s i) bs ++ (n i ++ b i)) in
     record {
-      answer = wrote_answer entry_format bs c.args.buffer.now yes' _ parts _ c.put-parts.ensures.answer;
-      buffer = wrote_buffer entry_format bs c.args.buffer.now yes' _ parts _ c.put-parts.ensures.buffer;
+      answer = wrote_answer entry_format bs c.args.buffer.now yes' _ parts _ c.put_parts.ensures.answer;
+      buffer = wrote_buffer entry_format bs c.args.buffer.now yes' _ parts _ c.put_parts.ensures.buffer;
       laws = entry_lawful;
     }

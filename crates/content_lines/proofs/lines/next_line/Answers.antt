@@ -7,5 +7,5 @@ use Rattle.content_lines.proofs.lines.next_line.Goals as goal
 pub returns : goal.returns
 returns c =
     let bs = c.args.bytes.now in
-    let r : take (length bs - (c.first-end.result + 2)) (drop (c.first-end.result + 2) bs) ≡ next_line bs = take_rest bs (c.first-end.result + 2) ∙ ap (λ k. drop (k + 2) bs) c.first-end.ensures.is in
-    ap Some r ∙ sym (cond-true (goes_on bs) (Some (next_line bs)) None (sym c.if-not-is-next-line.ensures.is))
+    let r : take (length bs - (c.first_end.result + 2)) (drop (c.first_end.result + 2) bs) ≡ next_line bs = take_rest bs (c.first_end.result + 2) ∙ ap (λ k. drop (k + 2) bs) c.first_end.ensures.is in
+    ap Some r ∙ sym (cond-true (goes_on bs) (Some (next_line bs)) None (sym c.if-not-is_next_line.ensures.is))

@@ -10,9 +10,9 @@ use Rattle.content_money.proofs.BalanceLaws.{Told, balance_told, balance_lawful,
 use Rattle.content_money.proofs.balances.write_balance.Goals as goal
 use Rattle.content_money.proofs.balances.write_balance.Goals.{In-Some}
 
-pub returns-in-default : goal.returns-in-default
-returns-in-default c =
-    let no' = is_not_told (balance_of c.args.currency c.args.content.now) c.in-default.ensures in
+pub returns-in_default : goal.returns-in_default
+returns-in_default c =
+    let no' = is_not_told (balance_of c.args.currency c.args.content.now) c.in_default.ensures in
     record {
       answer = refused_answer (balance_format c.args.currency) c.args.content.now c.args.buffer.now no';
       buffer = refused_buffer (balance_format c.args.currency) c.args.content.now c.args.buffer.now no';
@@ -23,16 +23,16 @@ returns-in-default c =
 told : (c : In-Some) → Told c.args.currency c.args.content.now c.in-Some.balance
 told c = balance_told c.args.currency c.args.content.now c.in-Some.balance (sym c.in-Some.ensures)
 
-pub returns-in-default-normal-rest : goal.returns-in-default-normal-rest
-returns-in-default-normal-rest c =
+pub returns-in_default-normal_rest : goal.returns-in_default-normal_rest
+returns-in_default-normal_rest c =
     let bs = c.args.content.now in
-    let t = told (goal.at.returns-in-default-normal-rest c).In-Some in
-    let e = c.in-default-normal-rest.ensures ∙ ap amount_part (take_rest bs 1) ∙ part_told c.args.currency (drop 1 bs) t.amount t.dated in
+    let t = told (goal.at.returns-in_default-normal_rest c).In-Some in
+    let e = c.in_default-normal_rest.ensures ∙ ap amount_part (take_rest bs 1) ∙ part_told c.args.currency (drop 1 bs) t.amount t.dated in
     absurd (grind arith)
 
-pub slice-bounds-put-parts-end-2 : goal.slice-bounds-put-parts-end-2
-slice-bounds-put-parts-end-2 c =
-    let t = told (goal.at.slice-bounds-put-parts-end-2 c).In-Some in
+pub slice_bounds-put_parts-end-2 : goal.slice_bounds-put_parts-end-2
+slice_bounds-put_parts-end-2 c =
+    let t = told (goal.at.slice_bounds-put_parts-end-2 c).In-Some in
     let l = (dated_told c.args.currency (drop 1 c.args.content.now) t.amount t.dated).long in
     let x = ap length (take_rest c.args.content.now 1) in
     search rules
@@ -43,14 +43,14 @@ returns c =
     let bs = c.args.content.now in
     let t = told (goal.at.returns c).In-Some in
     let yes' = is_told (balance_of cur bs) _ c.in-Some.ensures in
-    let e = c.in-Some-normal-rest.ensures ∙ ap amount_part (take_rest bs 1) ∙ part_told cur (drop 1 bs) t.amount t.dated in
-    let n : c.in-Some-normal-rest.amount.now ≡ normal (drop 9 (drop 1 bs)) = cc in
+    let e = c.in-Some-normal_rest.ensures ∙ ap amount_part (take_rest bs 1) ∙ part_told cur (drop 1 bs) t.amount t.dated in
+    let n : c.in-Some-normal_rest.amount.now ≡ normal (drop 9 (drop 1 bs)) = cc in
     let f : SFits w64 c.in-Some.balance.hundredths = search rules in
     let z = to_z-of_z w64 c.in-Some.balance.hundredths f in
-    let m : c.normal-mark-mark.result ≡ normal_mark bs = mark_written cur bs c.in-Some.balance t _ (λ e. c.normal-mark-mark.ensures.zero (z ∙ e)) (λ n. c.normal-mark-mark.ensures.other (λ e. n (sym z ∙ e))) in
-    let parts : c.normal-mark-mark.result ∷ (take 9 (take (length bs - 1) (drop 1 bs)) ++ c.in-Some-normal-rest.amount.now) ≡ balance_normal bs = (λ i. m i ∷ (take 9 (take_rest bs 1 i) ++ n i)) in
+    let m : c.normal_mark-mark.result ≡ normal_mark bs = mark_written cur bs c.in-Some.balance t _ (λ e. c.normal_mark-mark.ensures.zero (z ∙ e)) (λ n. c.normal_mark-mark.ensures.other (λ e. n (sym z ∙ e))) in
+    let parts : c.normal_mark-mark.result ∷ (take 9 (take (length bs - 1) (drop 1 bs)) ++ c.in-Some-normal_rest.amount.now) ≡ balance_normal bs = (λ i. m i ∷ (take 9 (take_rest bs 1 i) ++ n i)) in
     record {
-      answer = wrote_answer (balance_format cur) bs c.args.buffer.now yes' _ parts _ c.put-parts.ensures.answer;
-      buffer = wrote_buffer (balance_format cur) bs c.args.buffer.now yes' _ parts _ c.put-parts.ensures.buffer;
+      answer = wrote_answer (balance_format cur) bs c.args.buffer.now yes' _ parts _ c.put_parts.ensures.answer;
+      buffer = wrote_buffer (balance_format cur) bs c.args.buffer.now yes' _ parts _ c.put_parts.ensures.buffer;
       laws = balance_lawful cur;
     }

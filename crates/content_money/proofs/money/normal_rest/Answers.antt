@@ -8,4 +8,4 @@ pub returns : goal.returns
 returns c =
     let bs = c.args.content.now in
     let l : 9 ≤ length bs = omega arith in
-    c.normal-amount.ensures ∙ ap normal_of (take_rest bs 9) ∙ sym (cond-true (leb 9 (length bs)) (normal_of (drop 9 bs)) None (le-leb 9 (length bs) l))
+    c.normal_amount.ensures ∙ ap normal_of (take_rest bs 9) ∙ sym (cond-true (leb 9 (length bs)) (normal_of (drop 9 bs)) None (le-leb 9 (length bs) l))

@@ -1,5 +1,4 @@
-use Rattle.std.proofs.Common.{arith, rules}
-use Rattle.std.proofs.lemmas.Bool.Decides.{nat_tests}
+use Rattle.std.proofs.Common.{rules}
 use Rattle.contents.proofs.Steps.{place_more, place_all}
 use Rattle.contents.proofs.digits.place_of.Goals as goal
 

@@ -5,14 +5,14 @@ use Rattle.headers.specs.Application.{is_input, is_output, type_of, application_
 use Rattle.headers.proofs.Types.{typed}
 use Rattle.headers.proofs.application.read_application.Goals as goal
 
-pub type-of-requires : goal.type-of-requires
-type-of-requires c =
-    let t = typed c.part-input.result.now 21 (codes "{2:I") _ (sym c.if-is-input-header.ensures) (omega arith) in
+pub type_of-requires : goal.type_of-requires
+type_of-requires c =
+    let t = typed c.part-input.result.now 21 (codes "{2:I") _ (sym c.if-is_input_header.ensures) (omega arith) in
     record { long = t.long; digits = t.digits }
 
-pub type-of-requires-then-is-output-header : goal.type-of-requires-then-is-output-header
-type-of-requires-then-is-output-header c =
-    let t = typed c.part-output.result.now 51 (codes "{2:O") _ (sym c.if-is-output-header.ensures) (omega arith) in
+pub type_of-requires-then-is_output_header : goal.type_of-requires-then-is_output_header
+type_of-requires-then-is_output_header c =
+    let t = typed c.part-output.result.now 51 (codes "{2:O") _ (sym c.if-is_output_header.ensures) (omega arith) in
     record { long = t.long; digits = t.digits }
 
 -- the three answers, by the tests of the two blocks i and o
@@ -28,20 +28,20 @@ module _ (bs i o : List ℕ) (ei : i ≡ take 21 bs) (eo : o ≡ take 51 bs) whe
       let t' = et ∙ ap type_of eo in
       λ k. answer (x' k) (s' k) (y' k) (t' k)
 
-pub returns-then-is-input-header : goal.returns-then-is-input-header
-returns-then-is-input-header c =
+pub returns-then-is_input_header : goal.returns-then-is_input_header
+returns-then-is_input_header c =
     let bs = c.args.bytes.now in
-    answered bs c.part-input.result.now (take 51 bs) c.part-input.ensures refl true (is_output (take 51 bs)) c.type_of.result (type_of (take 51 bs)) c.if-is-input-header.ensures refl c.type_of.ensures refl
+    answered bs c.part-input.result.now (take 51 bs) c.part-input.ensures refl true (is_output (take 51 bs)) c.type_of.result (type_of (take 51 bs)) c.if-is_input_header.ensures refl c.type_of.ensures refl
 
-pub returns-then-is-output-header : goal.returns-then-is-output-header
-returns-then-is-output-header c =
+pub returns-then-is_output_header : goal.returns-then-is_output_header
+returns-then-is_output_header c =
     let bs = c.args.bytes.now in
     let i = c.part-input.result.now in
-    answered bs i c.part-output.result.now c.part-input.ensures c.part-output.ensures false true (type_of i) c.type-of-then-is-output-header.result c.if-is-input-header.ensures c.if-is-output-header.ensures refl c.type-of-then-is-output-header.ensures
+    answered bs i c.part-output.result.now c.part-input.ensures c.part-output.ensures false true (type_of i) c.type_of-then-is_output_header.result c.if-is_input_header.ensures c.if-is_output_header.ensures refl c.type_of-then-is_output_header.ensures
 
 pub returns : goal.returns
 returns c =
     let bs = c.args.bytes.now in
     let i = c.part-input.result.now in
     let o = c.part-output.result.now in
-    answered bs i o c.part-input.ensures c.part-output.ensures false false (type_of i) (type_of o) c.if-is-input-header.ensures c.if-is-output-header.ensures refl refl
+    answered bs i o c.part-input.ensures c.part-output.ensures false false (type_of i) (type_of o) c.if-is_input_header.ensures c.if-is_output_header.ensures refl refl

@@ -1,7 +1,6 @@
-use Rattle.std.proofs.Common.{◌≡◌, [], ◌∷◌, get_or, sym, ap, ◌∙◌, arith}
-use Rattle.std.proofs.lemmas.Bool.Decides.{nat_tests}
+use Rattle.std.proofs.Common.{ap, arith}
 use Rattle.contents.specs.Digits.{number}
-use Rattle.headers.proofs.Types.{three, digits}
+use Rattle.headers.proofs.Types.{three}
 use Rattle.headers.proofs.application.type_of.Goals as goal
 
 pub returns : goal.returns

@@ -9,5 +9,5 @@ pub returns : goal.returns
 returns c =
     let s = c.args.bytes.now in
     let p = c.args.word.now in
-    let is = starts_is Decides-eqb s p c.starts-with.result c.starts-with.ensures.value in
-    same_from_decides c.starts-with.result (starts p s) (is.0, is.1 (drop (length p) s)) (starts_decides p s)
+    let is = starts_is Decides-eqb s p c.starts_with.result c.starts_with.ensures.value in
+    same_from_decides c.starts_with.result (starts p s) (is.0, is.1 (drop (length p) s)) (starts_decides p s)

@@ -3,5 +3,5 @@ use Rattle.std.proofs.lemmas.List.{length-drop}
 use Rattle.layout.proofs.walk.body_start.Goals as goal
 
 -- the opening stands in the text
-pub overflow-add-result : goal.overflow-add-result
-overflow-add-result c = omega (arith, ap length c.rest.ensures, length-drop c.args.at c.args.text.now, c.starts-with.ensures.bound c.if-starts-with.true)
+pub overflow_add-result : goal.overflow_add-result
+overflow_add-result c = omega (arith, ap length c.rest.ensures, length-drop c.args.at c.args.text.now, c.starts_with.ensures.bound c.if-starts_with.true)

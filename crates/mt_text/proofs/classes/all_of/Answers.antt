@@ -1,5 +1,4 @@
 use Rattle.std.proofs.Common.{rules}
-use Rattle.mt_text.specs.Classes.{holds}
 use Rattle.mt_text.proofs.Steps.{every_more, every_all}
 use Rattle.mt_text.proofs.classes.all_of.Goals as goal
 

@@ -1,11 +1,11 @@
 use Rattle.reader.proofs.FieldSteps.{few_is, many_is, never_none}
 use Rattle.reader.proofs.texts.check_count.Goals as goal
 
-pub returns-then-layout-le-MAX-FIELDS : goal.returns-then-layout-le-MAX-FIELDS
-returns-then-layout-le-MAX-FIELDS c = few_is c.args.text.now c.args.layout c.requires c.if-layout-le-MAX-FIELDS.true
+pub returns-then-layout-le-MAX_FIELDS : goal.returns-then-layout-le-MAX_FIELDS
+returns-then-layout-le-MAX_FIELDS c = few_is c.args.text.now c.args.layout c.requires c.if-layout-le-MAX_FIELDS.true
 
 pub returns-in-Some : goal.returns-in-Some
-returns-in-Some c = many_is c.args.text.now c.args.layout c.requires c.if-layout-le-MAX-FIELDS.false c.in-Some.field c.in-Some.ensures
+returns-in-Some c = many_is c.args.text.now c.args.layout c.requires c.if-layout-le-MAX_FIELDS.false c.in-Some.field c.in-Some.ensures
 
 pub returns-in-None : goal.returns-in-None
-returns-in-None c = absurd (never_none c.args.text.now c.args.layout c.requires c.if-layout-le-MAX-FIELDS.false c.in-None.ensures)
+returns-in-None c = absurd (never_none c.args.text.now c.args.layout c.requires c.if-layout-le-MAX_FIELDS.false c.in-None.ensures)

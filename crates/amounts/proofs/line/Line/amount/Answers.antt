@@ -4,4 +4,4 @@ use Rattle.amounts.proofs.Fronts.{front_tells}
 use Rattle.amounts.proofs.line.Line.amount.Goals as goal
 
 pub returns : goal.returns
-returns c line e = c.read-amount.ensures ∙ ap amount_of (c.front.ensures ∙ e) ∙ front_tells line
+returns c line e = c.read_amount.ensures ∙ ap amount_of (c.front.ensures ∙ e) ∙ front_tells line

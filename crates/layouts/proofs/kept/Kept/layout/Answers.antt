@@ -4,4 +4,4 @@ use Rattle.layouts.proofs.Fronts.{front_tells}
 use Rattle.layouts.proofs.kept.Kept.layout.Goals as goal
 
 pub returns : goal.returns
-returns c text e = c.lay-out.ensures.answer ∙ ap laid_out (c.front.ensures ∙ e) ∙ front_tells text
+returns c text e = c.lay_out.ensures.answer ∙ ap laid_out (c.front.ensures ∙ e) ∙ front_tells text
