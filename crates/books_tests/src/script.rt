@@ -2,7 +2,6 @@
 use crate::samples::{SampleKey, SampleRecord};
 use books::{Book, Entry};
 use mt_text::Fault;
-use std::process::Abort;
 use std::test::Fail;
 
 // A call on an account, by the numbers of its key and record, with its answer.
@@ -108,22 +107,24 @@ fn answers<K: SampleKey, R: SampleRecord, B: Book<Word = K, Record = R>>(
 
 // Makes the call, and fails where it answers otherwise.
 pub fn expect<K: SampleKey, R: SampleRecord, B: Book<Word = K, Record = R>>(
-    rt: &impl Abort,
     book: &mut B,
     step: Step,
-) {
-    assert!(rt; answers(book, step));
+) -> Result<(), Fail> {
+    if !answers(book, step) {
+        return Err(Fail::new("a call answers otherwise"));
+    }
+    Ok(())
 }
 
 // Makes every call of the script.
 pub fn play<K: SampleKey, R: SampleRecord, B: Book<Word = K, Record = R>>(
-    rt: &impl Abort,
     book: &mut B,
     script: &[Step],
-) {
+) -> Result<(), Fail> {
     for step in script {
-        expect(rt, book, *step);
+        expect(book, *step)?;
     }
+    Ok(())
 }
 
 // A cell to begin with; what it holds must not matter.

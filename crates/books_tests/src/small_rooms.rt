@@ -3,7 +3,6 @@ use crate::samples::{SampleKey, SampleRecord};
 use crate::script::Step::*;
 use crate::script::{Step, cell, play};
 use books::{Entry, Number, Order, Reference, Shares, Statement};
-use std::process::Abort;
 use std::test::Fail;
 
 const NO_ROOM: [Step; 12] = [
@@ -176,47 +175,44 @@ const TWO_EACH: [Step; 67] = [
     Room(7, 2),
 ];
 
-fn no_room<K: SampleKey, R: SampleRecord>(rt: &impl Abort, cells: &mut [Entry<K, R>]) {
-    play(rt, &mut Shares::over(cells), &NO_ROOM);
+fn no_room<K: SampleKey, R: SampleRecord>(cells: &mut [Entry<K, R>]) -> Result<(), Fail> {
+    play(&mut Shares::over(cells), &NO_ROOM)
 }
 
-fn one_each<K: SampleKey, R: SampleRecord>(rt: &impl Abort, cells: &mut [Entry<K, R>]) {
-    play(rt, &mut Shares::over(cells), &ONE_EACH);
+fn one_each<K: SampleKey, R: SampleRecord>(cells: &mut [Entry<K, R>]) -> Result<(), Fail> {
+    play(&mut Shares::over(cells), &ONE_EACH)
 }
 
-fn two_each<K: SampleKey, R: SampleRecord>(rt: &impl Abort, cells: &mut [Entry<K, R>]) {
-    play(rt, &mut Shares::over(cells), &TWO_EACH);
-}
-
-#[test]
-fn room_0(rt: HostRuntime) -> Result<(), Fail> {
-    let order = cell::<Reference, Order>()?;
-    let statement = cell::<Number, Statement>()?;
-    no_room(&rt, &mut [order; 0]);
-    no_room(&rt, &mut [order; 7]);
-    no_room(&rt, &mut [statement; 1]);
-    no_room(&rt, &mut [statement; 7]);
-    Ok(())
+fn two_each<K: SampleKey, R: SampleRecord>(cells: &mut [Entry<K, R>]) -> Result<(), Fail> {
+    play(&mut Shares::over(cells), &TWO_EACH)
 }
 
 #[test]
-fn room_1(rt: HostRuntime) -> Result<(), Fail> {
+fn room_0() -> Result<(), Fail> {
     let order = cell::<Reference, Order>()?;
     let statement = cell::<Number, Statement>()?;
-    one_each(&rt, &mut [order; 8]);
-    one_each(&rt, &mut [order; 15]);
-    one_each(&rt, &mut [statement; 8]);
-    one_each(&rt, &mut [statement; 13]);
-    Ok(())
+    no_room(&mut [order; 0])?;
+    no_room(&mut [order; 7])?;
+    no_room(&mut [statement; 1])?;
+    no_room(&mut [statement; 7])
 }
 
 #[test]
-fn room_2(rt: HostRuntime) -> Result<(), Fail> {
+fn room_1() -> Result<(), Fail> {
     let order = cell::<Reference, Order>()?;
     let statement = cell::<Number, Statement>()?;
-    two_each(&rt, &mut [order; 16]);
-    two_each(&rt, &mut [order; 23]);
-    two_each(&rt, &mut [statement; 16]);
-    two_each(&rt, &mut [statement; 17]);
-    Ok(())
+    one_each(&mut [order; 8])?;
+    one_each(&mut [order; 15])?;
+    one_each(&mut [statement; 8])?;
+    one_each(&mut [statement; 13])
+}
+
+#[test]
+fn room_2() -> Result<(), Fail> {
+    let order = cell::<Reference, Order>()?;
+    let statement = cell::<Number, Statement>()?;
+    two_each(&mut [order; 16])?;
+    two_each(&mut [order; 23])?;
+    two_each(&mut [statement; 16])?;
+    two_each(&mut [statement; 17])
 }

@@ -90,7 +90,10 @@ mod tests {
                 },
             ) => {
                 assert!(rt;
-                    account == b"1" && account_at == 3 && code == b"KOBSMK2X" && code_at == 6
+                    account == b"1".as_slice()
+                        && account_at == 3
+                        && code == b"KOBSMK2X".as_slice()
+                        && code_at == 6
                 );
                 Ok(())
             }
