@@ -5,17 +5,17 @@ use Rattle.reader.specs.Rows.{format_for}
 use Rattle.reader.proofs.RowSteps.{format_more, format_all}
 use Rattle.reader.proofs.rows.format_for.Goals as goal
 
-pub returns-then-is-same-tag : goal.returns-then-is-same-tag
-returns-then-is-same-tag g c =
+pub returns-then-is_same_tag : goal.returns-then-is_same_tag
+returns-then-is_same_tag g c =
     let r = c.index-rows-at.result in
-    sym (cond-true (same_tag c.args.tag r.tag) (Some r.format) _ (sym c.if-is-same-tag.ensures))
+    sym (cond-true (same_tag c.args.tag r.tag) (Some r.format) _ (sym c.if-is_same_tag.ensures))
     ∙ sym (format_more c.args.rows.now c.loop-at.at r c.loop-at-test.true c.index-rows-at.is c.args.tag)
     ∙ c.loop-at.invariant
 
 pub loop-at-preserved : goal.loop-at-preserved
 loop-at-preserved g c =
     let r = c.index-rows-at.result in
-    sym (cond-false (same_tag c.args.tag r.tag) (Some r.format) _ (sym c.if-is-same-tag.ensures))
+    sym (cond-false (same_tag c.args.tag r.tag) (Some r.format) _ (sym c.if-is_same_tag.ensures))
     ∙ sym (format_more c.args.rows.now c.loop-at.at r c.loop-at-test.true c.index-rows-at.is c.args.tag)
     ∙ c.loop-at.invariant
 

@@ -36,7 +36,7 @@ loop-at-preserved g c =
     let l = c.loop-at in
     let r = c.index-rows-at.result in
     let rest = seek c.args.tag 0 (drop (l.at + 1) rows) in
-    let past = seek_past rows l.at r c.loop-at-test.true c.index-rows-at.is c.args.tag l.have c.in-default.ensures in
+    let past = seek_past rows l.at r c.loop-at-test.true c.index-rows-at.is c.args.tag l.have c.in_default.ensures in
     let both : c.if-enough-2.enough ≡ (l.enough && leb r.least l.have) =
     elim c.if-enough-2.branch [
       | then-enough-2 w ↦ let k = w.enough-is in let t = w.if-enough-2.true in grind (arith, nat_tests)

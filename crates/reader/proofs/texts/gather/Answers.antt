@@ -12,21 +12,21 @@ use Rattle.reader.proofs.texts.gather.Goals.{then-is-none, else-is-none}
 pub loop-field-init : goal.loop-field-init
 loop-field-init g c = midway_start g.M.Module.meaning c.args.text.now c.args.rows.now c.args.layout (told_by c.none-values.result) c.requires.laid c.requires.few c.none-values.ensures
 
-pub returns-in-err-step : goal.returns-in-err-step
-returns-in-err-step g c =
-    let p = err_from_is_err_and c.from-residual.result c.from-residual.ensures.1 in
+pub returns-in_err-step : goal.returns-in_err-step
+returns-in_err-step g c =
+    let p = err_from_is_err_and c.from_residual.result c.from_residual.ensures.1 in
     let l = c.loop-field in
     record {
       adds = rw p.1 tt;
       sum = rw (p.1, p.2)
-          (midway_refused g.M.Module.meaning c.args.text.now c.args.rows.now c.args.layout.hyphen c.args.layout.body l.from l.row l.count (told_by l.values) l.closing-at l.invariant c.in-Some.field c.in-Some.ensures (refusal_of c.in-err-step.field-0.0) c.in-err-step.ensures);
+          (midway_refused g.M.Module.meaning c.args.text.now c.args.rows.now c.args.layout.hyphen c.args.layout.body l.from l.row l.count (told_by l.values) l.closing_at l.invariant c.in-Some.field c.in-Some.ensures (refusal_of c.in_err-step.field-0.0) c.in_err-step.ensures);
     }
 
 pub then-values-requires : goal.then-values-requires
 then-values-requires g c =
     let l = c.loop-field in
-    let s = c.in-ok-step.step in
-    let more = midway_more g.M.Module.meaning c.args.text.now c.args.rows.now c.args.layout.hyphen c.args.layout.body l.from l.row l.count (told_by l.values) l.closing-at l.invariant g.met.M.Module.lawful c.in-Some.field c.in-Some.ensures (record { rows = drop s.row c.args.rows.now; count = s.count; told = told_by s.values }) c.in-ok-step.ensures in
+    let s = c.in_ok-step.step in
+    let more = midway_more g.M.Module.meaning c.args.text.now c.args.rows.now c.args.layout.hyphen c.args.layout.body l.from l.row l.count (told_by l.values) l.closing_at l.invariant g.met.M.Module.lawful c.in-Some.field c.in-Some.ensures (record { rows = drop s.row c.args.rows.now; count = s.count; told = told_by s.values }) c.in_ok-step.ensures in
     few_fits (l.invariant.done + 1) (l.values.lines +ℤ s.values.lines) (omega (arith, l.invariant.few)) (few_more l.invariant.done l.values.lines s.values.lines l.invariant.lines more.0)
 
 next : (g : given.Over) (c : goal.After-behind-from g) → Onward c.args.text.now c.loop-field.from c.in-Some.field c.behind-from.result
@@ -38,34 +38,34 @@ loop-field-smaller g c = let n = next g c in omega arith
 pub loop-field-preserved : goal.loop-field-preserved
 loop-field-preserved g c =
     let l = c.loop-field in
-    let s = c.in-ok-step.step in
+    let s = c.in_ok-step.step in
     let m = g.M.Module.meaning in
     let rows = c.args.rows.now in
-    let more = midway_more m c.args.text.now rows c.args.layout.hyphen c.args.layout.body l.from l.row l.count (told_by l.values) l.closing-at l.invariant g.met.M.Module.lawful c.in-Some.field c.in-Some.ensures (record { rows = drop s.row rows; count = s.count; told = told_by s.values }) c.in-ok-step.ensures in
-    let place : cond (is_some l.values.closing) l.closing-at c.in-Some.field.at ≡ c.if-is-none.closing_at =
-    elim c.if-is-none.branch [
-      | then-is-none w ↦ let t = w.if-is-none.true in let k = w.closing-at-is in let e = c.is-none.ensures in grind arith
-      | else-is-none w ↦ let t = w.if-is-none.false in let k = w.closing-at-is in let e = c.is-none.ensures in grind arith
+    let more = midway_more m c.args.text.now rows c.args.layout.hyphen c.args.layout.body l.from l.row l.count (told_by l.values) l.closing_at l.invariant g.met.M.Module.lawful c.in-Some.field c.in-Some.ensures (record { rows = drop s.row rows; count = s.count; told = told_by s.values }) c.in_ok-step.ensures in
+    let place : cond (is_some l.values.closing) l.closing_at c.in-Some.field.at ≡ c.if-is_none.closing_at =
+    elim c.if-is_none.branch [
+      | then-is-none w ↦ let t = w.if-is_none.true in let k = w.closing-at-is in let e = c.is_none.ensures in grind arith
+      | else-is-none w ↦ let t = w.if-is_none.false in let k = w.closing-at-is in let e = c.is_none.ensures in grind arith
     ]
     in
-    let a = subst (λ f. Midway m c.args.text.now rows c.args.layout.hyphen c.args.layout.body f s.row s.count (joined (told_by l.values) (told_by s.values)) (cond (is_some l.values.closing) l.closing-at c.in-Some.field.at)) (sym (next g c).is) (more.1 s.row refl) in
-    let b = subst (λ v. Midway m c.args.text.now rows c.args.layout.hyphen c.args.layout.body c.behind-from.result s.row s.count v (cond (is_some l.values.closing) l.closing-at c.in-Some.field.at)) (sym c.then-values.ensures) a in
+    let a = subst (λ f. Midway m c.args.text.now rows c.args.layout.hyphen c.args.layout.body f s.row s.count (joined (told_by l.values) (told_by s.values)) (cond (is_some l.values.closing) l.closing_at c.in-Some.field.at)) (sym (next g c).is) (more.1 s.row refl) in
+    let b = subst (λ v. Midway m c.args.text.now rows c.args.layout.hyphen c.args.layout.body c.behind-from.result s.row s.count v (cond (is_some l.values.closing) l.closing_at c.in-Some.field.at)) (sym c.then-values.ensures) a in
     subst (λ k. Midway m c.args.text.now rows c.args.layout.hyphen c.args.layout.body c.behind-from.result s.row s.count (told_by c.then-values.result) k) place b
 
-pub returns-then-is-filled : goal.returns-then-is-filled
-returns-then-is-filled g c =
+pub returns-then-is_filled : goal.returns-then-is_filled
+returns-then-is_filled g c =
     let l = c.loop-field in
     record {
-      adds = adds_up g.M.Module.meaning c.args.text.now c.args.rows.now c.args.layout.hyphen c.args.layout.body l.from l.row l.count (told_by l.values) l.closing-at l.invariant;
+      adds = adds_up g.M.Module.meaning c.args.text.now c.args.rows.now c.args.layout.hyphen c.args.layout.body l.from l.row l.count (told_by l.values) l.closing_at l.invariant;
       sum =
-          sum_all g.M.Module.meaning c.args.text.now c.args.rows.now c.args.layout.hyphen c.args.layout.body l.from l.row l.count (told_by l.values) l.closing-at l.invariant
-          ∙ midway_end g.M.Module.meaning c.args.text.now c.args.rows.now c.args.layout.hyphen c.args.layout.body l.from l.row l.count (told_by l.values) l.closing-at l.invariant c.in-default.ensures true c.if-is-filled.ensures;
+          sum_all g.M.Module.meaning c.args.text.now c.args.rows.now c.args.layout.hyphen c.args.layout.body l.from l.row l.count (told_by l.values) l.closing_at l.invariant
+          ∙ midway_end g.M.Module.meaning c.args.text.now c.args.rows.now c.args.layout.hyphen c.args.layout.body l.from l.row l.count (told_by l.values) l.closing_at l.invariant c.in_default.ensures true c.if-is_filled.ensures;
     }
 
-pub returns-else-is-filled : goal.returns-else-is-filled
-returns-else-is-filled g c =
+pub returns-else-is_filled : goal.returns-else-is_filled
+returns-else-is_filled g c =
     let l = c.loop-field in
     record {
       adds = tt;
-      sum = midway_end g.M.Module.meaning c.args.text.now c.args.rows.now c.args.layout.hyphen c.args.layout.body l.from l.row l.count (told_by l.values) l.closing-at l.invariant c.in-default.ensures false c.if-is-filled.ensures;
+      sum = midway_end g.M.Module.meaning c.args.text.now c.args.rows.now c.args.layout.hyphen c.args.layout.body l.from l.row l.count (told_by l.values) l.closing_at l.invariant c.in_default.ensures false c.if-is_filled.ensures;
     }

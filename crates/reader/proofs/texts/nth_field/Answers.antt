@@ -21,4 +21,4 @@ loop-field-preserved c =
     (sought_on c.args.text.now c.args.layout.body c.args.index c.loop-field.from c.loop-field.left c.loop-field.invariant c.in-Some.field c.in-Some.ensures (c.loop-field.left - 1) z)
 
 pub returns : goal.returns
-returns c = sought_none c.args.text.now c.args.layout.body c.args.index c.loop-field.from c.loop-field.left c.loop-field.invariant c.in-default.ensures
+returns c = sought_none c.args.text.now c.args.layout.body c.args.index c.loop-field.from c.loop-field.left c.loop-field.invariant c.in_default.ensures
