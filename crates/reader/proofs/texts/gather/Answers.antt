@@ -7,7 +7,7 @@ use Rattle.reader.proofs.FieldSteps.{Onward, onward}
 use Rattle.reader.proofs.Gathering.{Midway, midway_start, midway_more, midway_refused, midway_end, adds_up, sum_all, few_more, few_fits}
 use Rattle.reader.proofs.texts.gather.Given as given
 use Rattle.reader.proofs.texts.gather.Goals as goal
-use Rattle.reader.proofs.texts.gather.Goals.{then-is-none, else-is-none}
+use Rattle.reader.proofs.texts.gather.Goals.{then-is_none, else-is_none}
 
 pub loop-field-init : goal.loop-field-init
 loop-field-init g c = midway_start g.M.Module.meaning c.args.text.now c.args.rows.now c.args.layout (told_by c.none-values.result) c.requires.laid c.requires.few c.none-values.ensures
@@ -44,8 +44,8 @@ loop-field-preserved g c =
     let more = midway_more m c.args.text.now rows c.args.layout.hyphen c.args.layout.body l.from l.row l.count (told_by l.values) l.closing_at l.invariant g.met.M.Module.lawful c.in-Some.field c.in-Some.ensures (record { rows = drop s.row rows; count = s.count; told = told_by s.values }) c.in_ok-step.ensures in
     let place : cond (is_some l.values.closing) l.closing_at c.in-Some.field.at ≡ c.if-is_none.closing_at =
     elim c.if-is_none.branch [
-      | then-is-none w ↦ let t = w.if-is_none.true in let k = w.closing-at-is in let e = c.is_none.ensures in grind arith
-      | else-is-none w ↦ let t = w.if-is_none.false in let k = w.closing-at-is in let e = c.is_none.ensures in grind arith
+      | then-is_none w ↦ let t = w.if-is_none.true in let k = w.closing_at-is in let e = c.is_none.ensures in grind arith
+      | else-is_none w ↦ let t = w.if-is_none.false in let k = w.closing_at-is in let e = c.is_none.ensures in grind arith
     ]
     in
     let a = subst (λ f. Midway m c.args.text.now rows c.args.layout.hyphen c.args.layout.body f s.row s.count (joined (told_by l.values) (told_by s.values)) (cond (is_some l.values.closing) l.closing_at c.in-Some.field.at)) (sym (next g c).is) (more.1 s.row refl) in
