@@ -1,4 +1,5 @@
 pub mod Apart
 pub mod Changes
 pub mod Gaps
+pub mod Packing
 pub mod Places

@@ -5,4 +5,4 @@ pub mod States
 pub mod Lists
 pub mod Calls
 pub mod Runs
-pub mod Packing
+pub mod KeyLaws

@@ -3,7 +3,7 @@ ghost use Rattle.std.specs.Prelude.{◌≡◌, ◌≤◌, ◌++◌, length};
 ghost use Rattle.mt_text.specs.Refusals.{told};
 ghost use Rattle.mt_text.specs.Lent.{fitted, overwritten};
 ghost use Rattle.books.specs.References.{is_reference, word_of, bytes_of, reference_of, spelled, said, says_of, if_reference};
-ghost use Rattle.books.specs.Packing.{tells_apart};
+ghost use Rattle.books.specs.KeyLaws.{tells_apart};
 
 use crate::keys::Key;
 use mt_text::{Class, Fault, all_of, put_front};

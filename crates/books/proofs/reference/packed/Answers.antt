@@ -1,5 +1,5 @@
 use Rattle.std.proofs.Common.{◌-◌, ◌<◌, length, arith}
-use Rattle.books.specs.Packing.{none_packed, packed_more, below_word}
+use Rattle.books.proofs.Packing.{none_packed, packed_more, below_word}
 use Rattle.books.proofs.reference.packed.Goals as goal
 
 pub loop-i-init : goal.loop-i-init

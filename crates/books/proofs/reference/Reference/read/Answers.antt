@@ -1,7 +1,7 @@
 use Rattle.std.proofs.Common.{◌≡◌, ◌-◌, min, length, take, drop, sym, arith, rules}
 use Rattle.std.proofs.lemmas.Bool.{cond-false}
 use Rattle.books.specs.References.{word_of}
-use Rattle.books.specs.Packing.{kept_in_parts, read_of}
+use Rattle.books.proofs.Packing.{kept_in_parts, read_of}
 use Rattle.books.proofs.reference.Reference.read.Goals as goal
 use Rattle.books.proofs.reference.Reference.read.Goals.{then-len-lt8, else-len-lt8}
 

@@ -1,7 +1,7 @@
 use Rattle.std.proofs.Common.{◌≡◌, ◌++◌, replicate, sym, ◌∙◌}
 use borrow.Rule.Slice.PartMut.{put_mid}
 use Rattle.books.specs.References.{bytes_of}
-use Rattle.books.specs.Packing.{bytes_by_quotients}
+use Rattle.books.proofs.Packing.{bytes_by_quotients}
 use Rattle.books.proofs.reference.Reference.sixteen.Goals as goal
 
 pub returns : goal.returns

@@ -1,7 +1,7 @@
 use Rattle.std.proofs.Common.{◌≡◌, ◌-◌, min, take, ap, ◌∙◌, arith}
 use Rattle.mt_text.specs.Lent.{fitted, overwritten}
 use Rattle.books.specs.References.{spelled}
-use Rattle.books.specs.Packing.{spelled_cut}
+use Rattle.books.proofs.Packing.{spelled_cut}
 use Rattle.books.proofs.reference.Reference.write.Goals as goal
 use Rattle.books.proofs.reference.Reference.write.Goals.{then-len-lt-MAX_REFERENCE, else-len-lt-MAX_REFERENCE}
 

@@ -1,5 +1,5 @@
 use Rattle.std.proofs.Common.{◌≡◌, rules}
-use Rattle.books.specs.Packing.{same_by_length, other_first, other_second}
+use Rattle.books.proofs.Packing.{same_by_length, other_first, other_second}
 use Rattle.books.proofs.reference.ReferenceKey.same.Goals as goal
 use Rattle.books.proofs.reference.ReferenceKey.same.Goals.{then-self-other-via-then-self-other, then-self-other-via-else-self-other+then-self-other-2}
 

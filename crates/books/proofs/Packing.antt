@@ -2,13 +2,14 @@
 use Rattle.std.specs.Prelude.{◌≡◌, ℕ, zero, suc, ◌+◌, ◌-◌, ◌*◌, ◌/◌, ◌%◌, ◌^◌, ◌<◌, ◌≤◌, min, true, false, List, [], ◌∷◌, ◌++◌, length, take, drop, Some, ◌==◌, ◌≢◌, slice_index, refl}
 use Rattle.std.proofs.Common.{sym, ap, subst, ◌∙◌, inl, inr, arith, lit<}
 use Rattle.std.proofs.Math.Nat.{pow-le-pow_right}
-use Rattle.std.proofs.lemmas.Nat.{pow-add, shr-shr, div-mul-add, mod-mul-add, mod_below}
+use Rattle.std.proofs.lemmas.Nat.{pow-add, shr-shr, div-mul-add, mod-mul-add}
 use Rattle.std.proofs.lemmas.List.{at_drop_more, at_drop_all, take_all, drop_all, take_rest}
-use Rattle.std.proofs.lemmas.Bool.{cases_Bool, cases_eq, cases_lt, and_parts, and_from, eqb-true, eq-eqb, ne_eqb, cond-true, cond-false}
+use Rattle.std.proofs.lemmas.Bool.{cases_Bool, cases_eq, cases_lt, and_parts, and_from, eqb-true, eq-eqb, ne_eqb, cond-true}
 use Rattle.std.proofs.lemmas.Bool.Decides.{nat_tests}
 use Rattle.mt_text.specs.Classes.{every, printable}
 use Rattle.books.specs.declared.reference.Reference.{Reference}
 use Rattle.books.specs.Keys.{alike}
+use Rattle.books.specs.KeyLaws.{tells_apart}
 use Rattle.books.specs.References.{is_reference, word_of, bytes_of, kept, spelled, is_kept, says_of, reference_of, if_reference}
 
 -- ---- rows of numbers
@@ -80,40 +81,6 @@ module _ (bs : List ℕ) (h : is_reference bs ≡ true) where
   pub says_kept : says_of (kept bs) ≡ bs
   unfolding says_of
   says_kept = cond-true _ _ _ kept_is_kept ∙ spelled_kept
-
-kept_back : (r : Reference) → is_kept r ≡ true → r ≡ kept (spelled r)
-unfolding is_kept kept
-kept_back r h =
-    let p = and_parts (r.first == word_of (take 8 (spelled r))) _ h in
-    let q = and_parts (r.second == word_of (drop 8 (spelled r))) _ p.1 in
-    let a = eqb-true _ _ p.0 in
-    let b = eqb-true _ _ q.0 in
-    let c = eqb-true _ _ q.1 in
-    (λ i. record { first = a i; second = b i; len = c i })
-
--- what bytes say begins with a byte
-never_stray : (n f s : ℕ) (rest : List ℕ) → take n (bytes_of 8 f ++ bytes_of 8 s) ≢ 256 ∷ rest
-never_stray zero f s rest e = let z : ◌≡◌ {A = ℕ} 0 1 = cc in omega arith
-never_stray (suc n) f s rest e =
-    let z : f % 256 ≡ 256 = ap (λ l. slice_index l 0) e in
-    let b : f % 256 < 256 = mod_below f 256 (omega arith) in
-    omega arith
-
-pub tells_apart : (a b : Reference) → says_of a ≡ says_of b → a ≡ b
-unfolding says_of spelled
-tells_apart a b e =
-    elim (cases_Bool (is_kept a)) [
-      | inl p ↦ elim (cases_Bool (is_kept b)) [
-        | inl q ↦ kept_back a p ∙ ap kept (sym (cond-true _ _ _ p) ∙ e ∙ cond-true _ _ _ q) ∙ sym (kept_back b q)
-        | inr q ↦ absurd (never_stray a.len a.first a.second _ (sym (cond-true _ _ _ p) ∙ e ∙ cond-false _ _ _ q))
-      ]
-      | inr p ↦ elim (cases_Bool (is_kept b)) [
-        | inl q ↦ absurd (never_stray b.len b.first b.second _ (sym (cond-true _ _ _ q) ∙ sym e ∙ cond-false _ _ _ p))
-        | inr q ↦
-            let f = sym (cond-false _ _ _ p) ∙ e ∙ cond-false _ _ _ q in
-            (λ i. record { first = ap (λ l. slice_index l 1) f i; second = ap (λ l. slice_index l 2) f i; len = ap (λ l. slice_index l 3) f i })
-      ]
-    ]
 
 -- the comparison by fields is that of what is said
 module _ (a b : Reference) where
