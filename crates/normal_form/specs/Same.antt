@@ -2,7 +2,7 @@
 use Rattle.std.specs.Prelude.{◌≡◌, ℕ, List, [], ◌∷◌, map, Some, None, Option}
 use Rattle.std.specs.Option.{option_map}
 use Rattle.fields.specs.Written.{shown}
-use Rattle.layout.specs.Render.{User, Parts, parts_of, capital_of}
+use Rattle.layout.specs.Render.{User, parts_of, capital_of}
 use Rattle.reader.specs.Meaning.{Meaning}
 use Rattle.reader.specs.Rows.{Taken}
 use Rattle.reader.specs.Texts.{Sound}

@@ -1,17 +1,16 @@
 -- Field i of a sound text, from the fields that were laid out.
-use Rattle.std.proofs.Common.{◌≡◌, ℕ, zero, suc, true, List, [], ◌∷◌, map, length, drop, Some, None, Ok, Err, Option, Result, sym, refl, ap, ◌∙◌, subst, arith}
+use Rattle.std.proofs.Common.{◌≡◌, ℕ, zero, suc, List, [], ◌∷◌, map, Some, None, Ok, Err, Option, Result, sym, refl, ap, ◌∙◌, subst, arith}
 use Rattle.std.specs.List.{slice_get, AllByRecursion as All}
 use Rattle.std.specs.Option.{option_map}
 use Rattle.mt_text.specs.Refusals.{Refusal}
 use Rattle.fields.specs.declared.scan.Field.{Field}
-use Rattle.fields.specs.Written.{shown}
 use Rattle.layout.specs.declared.walk.Layout.{Layout}
-use Rattle.layout.specs.Walk.{heed, laid_out}
+use Rattle.layout.specs.Walk.{heed}
 use Rattle.reader.specs.declared.interface.Row.{Row}
 use Rattle.reader.specs.Meaning.{Meaning, KeepsLaws}
 use Rattle.reader.specs.Rows.{Taken, format_for}
 use Rattle.reader.specs.Texts.{fields_in, values_in, Sound, sound, Answer, reading_of}
-use Rattle.reader.specs.Views.{View, viewed, sort_of, view}
+use Rattle.reader.specs.Views.{viewed, view}
 use Rattle.reader.proofs.Sounds.{heeded, Passed, passed_all, taken_fields}
 use Rattle.reader.proofs.Formats.{ByTag, formats_by_tag}
 

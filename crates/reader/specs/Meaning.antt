@@ -1,5 +1,5 @@
 -- What a module means, and the laws that every module keeps.
-use Rattle.std.specs.Prelude.{◌≡◌, ℕ, ◌^◌, ◌<◌, Bool, true, false, cond, not, ◌&&◌, List, [], ◌∷◌, ℤ, pos, neg_ℤ, ◌<ℤ◌, Some, None, Option, ◌==◌}
+use Rattle.std.specs.Prelude.{◌≡◌, ℕ, ◌^◌, ◌<◌, Bool, true, false, not, ◌&&◌, List, [], ◌∷◌, ℤ, pos, neg_ℤ, ◌<ℤ◌, Some, None, Option, ◌==◌}
 use Rattle.mt_text.specs.Classes.{between}
 use Rattle.contents.specs.Dates.{is_real}
 use Rattle.content_lines.specs.Formats.{Format, Lawful}

@@ -8,7 +8,6 @@ use Rattle.fields.specs.declared.tags.Tag.{Tag}
 use Rattle.fields.specs.declared.scan.Field.{Field}
 use Rattle.fields.specs.Written.{shown}
 use Rattle.reader.specs.declared.interface.Row.{Row}
-use Rattle.reader.specs.Values.{Told}
 use Rattle.reader.specs.Meaning.{Meaning, same_tag}
 
 -- rows as they are listed

@@ -1,5 +1,5 @@
 -- What the calls inside the reader answer, in the words of the walk.
-use Rattle.std.specs.Prelude.{ℕ, cond, List, [], ◌∷◌, drop, ◌+ℤ◌, is_some, Some, None, Ok, Err, Option, Result, FitsSigned}
+use Rattle.std.specs.Prelude.{ℕ, cond, List, ◌∷◌, drop, ◌+ℤ◌, is_some, Some, None, Ok, Err, Option, Result, FitsSigned}
 use Rattle.std.specs.Int.{w64}
 use Rattle.mt_text.specs.declared.fault.Fault.{Fault}
 use Rattle.mt_text.specs.Refusals.{Refusal, refusal_of, refused_at}

@@ -6,7 +6,6 @@ use Rattle.mt_text.specs.declared.fault.Fault.{Fault}
 use Rattle.mt_text.specs.Refusals.{Refusal, refusal_of}
 use Rattle.content_party.specs.Parties.{Parts, code, account_and_code}
 use Rattle.fields.specs.declared.tags.Tag.{Tag}
-use Rattle.fields.specs.declared.scan.Field.{Field}
 use Rattle.fields.specs.Written.{shown}
 use Rattle.layout.specs.Walk.{heed}
 use Rattle.reader.specs.declared.views.Kind.{Kind}

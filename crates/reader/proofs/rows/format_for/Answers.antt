@@ -1,7 +1,6 @@
-use Rattle.std.proofs.Common.{◌≡◌, Some, sym, ap, ◌∙◌}
+use Rattle.std.proofs.Common.{Some, sym, ◌∙◌}
 use Rattle.std.proofs.lemmas.Bool.{cond-true, cond-false}
 use Rattle.reader.specs.Meaning.{same_tag}
-use Rattle.reader.specs.Rows.{format_for}
 use Rattle.reader.proofs.RowSteps.{format_more, format_all}
 use Rattle.reader.proofs.rows.format_for.Goals as goal
 

@@ -1,6 +1,6 @@
-use Rattle.std.proofs.Common.{◌≡◌, ◌+◌, Bool, ◌&&◌, leb, drop, sym, ap, ◌∙◌, arith}
+use Rattle.std.proofs.Common.{◌≡◌, ◌+◌, ◌&&◌, leb, drop, sym, ap, ◌∙◌, arith}
 use Rattle.std.proofs.lemmas.Bool.Decides.{nat_tests}
-use Rattle.reader.specs.Rows.{short, here, passing, seek}
+use Rattle.reader.specs.Rows.{passing, seek}
 use Rattle.reader.specs.Spots.{first_of}
 use Rattle.reader.proofs.RowSteps.{row_at, seek_here, seek_past, seek_all, passing_none, passing_more}
 use Rattle.reader.proofs.rows.seek_row.Goals as goal

@@ -1,8 +1,7 @@
-use Rattle.std.proofs.Common.{◌≡◌, ◌+◌, true, false, cond, not, drop, ◌+ℤ◌, is_some, Ok, Err, sym, refl, ap, ◌∙◌, subst, arith, w64, SFits}
+use Rattle.std.proofs.Common.{◌≡◌, ◌+◌, true, false, cond, drop, ◌+ℤ◌, is_some, sym, refl, ◌∙◌, subst, arith}
 use Rattle.std.proofs.lemmas.Result.{err_from_is_err_and}
 use Rattle.mt_text.specs.Refusals.{refusal_of}
 use Rattle.reader.specs.Values.{told_by, joined}
-use Rattle.reader.specs.Steps.{Forward, gathered}
 use Rattle.reader.proofs.FieldSteps.{Onward, onward}
 use Rattle.reader.proofs.Gathering.{Midway, midway_start, midway_more, midway_refused, midway_end, adds_up, sum_all, few_more, few_fits}
 use Rattle.reader.proofs.texts.gather.Given as given

@@ -1,5 +1,5 @@
-use Rattle.std.proofs.Common.{◌≡◌, ap, ◌∙◌}
-use Rattle.reader.specs.Rows.{value_of, seek}
+use Rattle.std.proofs.Common.{ap, ◌∙◌}
+use Rattle.reader.specs.Rows.{value_of}
 use Rattle.reader.specs.Values.{told_by}
 use Rattle.reader.proofs.RowSteps.{forward_taken, forward_refused}
 use Rattle.reader.proofs.texts.take_field.Goals as goal
