@@ -2,7 +2,7 @@
 use Rattle.std.proofs.Common.{◌≡◌, ℕ, zero, suc, ◌+◌, ◌-◌, ◌<◌, true, false, ◌&&◌, List, [], ◌∷◌, ◌++◌, map, length, get_or, take, drop, Some, None, Ok, Option, sym, refl, ap, ◌∙◌, add-zero, arith}
 use Rattle.std.proofs.lemmas.List.{length-drop, length-append, drop-drop, drop_at, take_at}
 use Rattle.std.proofs.lemmas.Bool.Decides.{nat_tests}
-use Rattle.std.specs.List.{AllByRecursion as All}
+use Rattle.std.specs.List.{AllByRecursion}
 use Rattle.mt_text.specs.Classes.{digit}
 use Rattle.fields.specs.declared.scan.Field.{Field}
 use Rattle.fields.specs.Tags.{tag_at, letter_width, width}
@@ -79,7 +79,7 @@ record Located (n : ℕ) (text : List ℕ) (i : ℕ) (xs : List Item) (after : L
   ends : b.hyphen + 2 + length after ≡ length text
   rest : drop (b.hyphen + 2) text ≡ after
 
-body_trip : (n : ℕ) (text : List ℕ) (i : ℕ) (xs : List Item) (after : List ℕ) → All ItemOk xs → drop i text ≡ written xs after → length xs < n → (b : Found) × Located n text i xs after b
+body_trip : (n : ℕ) (text : List ℕ) (i : ℕ) (xs : List Item) (after : List ℕ) → AllByRecursion ItemOk xs → drop i text ≡ written xs after → length xs < n → (b : Found) × Located n text i xs after b
 body_trip zero text i xs after ok here lt = absurd (omega arith)
 body_trip (suc n) text i [] after ok here lt = (
   record { fields = []; hyphen = i },

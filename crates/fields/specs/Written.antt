@@ -1,6 +1,6 @@
 -- Block 4 as it is written, and that reading gives back what was written.
 use Rattle.std.specs.Prelude.{◌≡◌, ℕ, ◌+◌, ◌≤◌, Bool, true, cond, not, ◌&&◌, List, [], ◌∷◌, ◌++◌, map, length, take, drop, Some, None, Ok, Option, ◌==◌, slice_index}
-use Rattle.std.specs.List.{AllByRecursion as All}
+use Rattle.std.specs.List.{AllByRecursion}
 use Rattle.mt_text.specs.Classes.{digit, capital}
 use Rattle.fields.specs.declared.tags.Tag.{Tag}
 use Rattle.fields.specs.declared.scan.Field.{Field}
@@ -55,12 +55,12 @@ pub record Finds (text : List ℕ) (i : ℕ) (xs : List Item) (after : List ℕ)
 
 -- what is written is read as it was meant, wherever it stands and whatever follows
 abbrev pub RoundTrip : Type 0
-RoundTrip = (before : List ℕ) (xs : List Item) (after : List ℕ) → All ItemOk xs → (b : Found) × Finds (before ++ written xs after) (length before) xs after b
+RoundTrip = (before : List ℕ) (xs : List Item) (after : List ℕ) → AllByRecursion ItemOk xs → (b : Found) × Finds (before ++ written xs after) (length before) xs after b
 
 -- what is read without fault stands there as it would be written
 pub record Reads (text : List ℕ) (i : ℕ) (b : Found) : Type 0 where
   pub same : drop i text ≡ written (map (shown text) b.fields) (drop (b.hyphen + 2) text)
-  pub ok : All ItemOk (map (shown text) b.fields)
+  pub ok : AllByRecursion ItemOk (map (shown text) b.fields)
   pub within : b.hyphen + 2 ≤ length text
 
 abbrev pub Accepted : Type 0

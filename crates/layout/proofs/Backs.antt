@@ -20,7 +20,7 @@ use Rattle.headers.specs.declared.application.Application.{Application}
 use Rattle.headers.specs.declared.application.Direction.TheVariants.{Input, Output}
 use Rattle.headers.specs.Basic.{is_basic}
 use Rattle.headers.specs.Application.{is_input, is_output, type_of, application_of}
-use Rattle.std.specs.List.{AllByRecursion as All}
+use Rattle.std.specs.List.{AllByRecursion}
 use Rattle.fields.specs.declared.scan.Body.{Body}
 use Rattle.fields.specs.Fields.{Found, body_at, sized}
 use Rattle.fields.specs.Written.{ItemOk}
@@ -192,10 +192,10 @@ opening_back text i o e = by (starts (codes "{3:") (drop i text)) e
         subst (λ (v : Option UserHeader). user_fits (option_map (values_of text) v)) u tt
 
 -- block 4
-fields_back : (text : List ℕ) (s : ℕ) (b : Body) → s ≤ length text → sized (body_at text s) ≡ Ok b → All ItemOk (fields_of text (body_at text s))
+fields_back : (text : List ℕ) (s : ℕ) (b : Body) → s ≤ length text → sized (body_at text s) ≡ Ok b → AllByRecursion ItemOk (fields_of text (body_at text s))
 fields_back text s b l e = by (body_at text s) refl e
   where
-    by : (r : Result Found Refusal) → body_at text s ≡ r → sized r ≡ Ok b → All ItemOk (fields_of text r)
+    by : (r : Result Found Refusal) → body_at text s ≡ r → sized r ≡ Ok b → AllByRecursion ItemOk (fields_of text r)
     by (Ok f) p q = (fields-accepted text s f l p).ok
     by (Err x) p q = absurd (grind arith)
 

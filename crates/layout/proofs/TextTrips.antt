@@ -1,7 +1,7 @@
 -- A text as it is written from well-formed parts is laid out into these parts.
 use Rattle.std.proofs.Common.{◌≡◌, ℕ, ◌+◌, ◌-◌, ◌≤◌, true, false, cond, eqb, ltb, List, [], ◌∷◌, ◌++◌, map, length, take, drop, Some, None, Ok, codes, Option, sym, refl, ap, ◌∙◌, subst, ⊎_elim, arith}
 use Rattle.std.specs.Option.{option_map}
-use Rattle.std.specs.List.{AllByRecursion as All}
+use Rattle.std.specs.List.{AllByRecursion}
 use Rattle.std.proofs.lemmas.List.{take_at, drop_at, drop-drop, take-append-drop, length-take-le, length-drop}
 use Rattle.std.proofs.lemmas.Bool.{and_parts, and_left, and_right, eqb-true, or_cases}
 use Rattle.mt_text.specs.Refusals.{refused_at}
@@ -102,7 +102,7 @@ record Fourth (text : List ℕ) (s : ℕ) (xs : List Item) (b : Found) : Type 0 
   same : map (shown text) b.fields ≡ xs
   ends : b.hyphen + 2 ≡ length text
 
-fourth : (text : List ℕ) (s : ℕ) (xs : List Item) → All ItemOk xs → s ≤ length text → drop s text ≡ written xs [] → (b : Found) × Fourth text s xs b
+fourth : (text : List ℕ) (s : ℕ) (xs : List Item) → AllByRecursion ItemOk xs → s ≤ length text → drop s text ≡ written xs [] → (b : Found) × Fourth text s xs b
 fourth text s xs ok l is =
     let whole : take s text ++ written xs [] ≡ text = ap (λ t. take s text ++ t) (sym is) ∙ take-append-drop s text in
     let at : length (take s text) ≡ s = length-take-le s text l in

@@ -1,7 +1,7 @@
 -- A text as it is written from its parts, and that laying it out gives these parts back.
 use Rattle.std.specs.Prelude.{◌≡◌, ℕ, ◌-◌, true, cond, ◌||◌, List, [], ◌∷◌, ◌++◌, map, take, drop, is_some, Some, None, Ok, Err, codes, Option, Result}
 use Rattle.std.specs.Option.{option_map}
-use Rattle.std.specs.List.{AllByRecursion as All}
+use Rattle.std.specs.List.{AllByRecursion}
 use Rattle.mt_text.specs.Classes.{small}
 use Rattle.mt_text.specs.Refusals.{Refusal}
 use Rattle.mt_text.specs.Bytes.{checked}
@@ -76,7 +76,7 @@ pub record PartsOk (p : Parts) : Type 0 where
   pub basic : is_basic p.basic ≡ true
   pub application : (is_input p.application || is_output p.application) ≡ true
   pub user : user_fits p.user
-  pub fields : All ItemOk p.fields
+  pub fields : AllByRecursion ItemOk p.fields
 
 -- and the whole has a text's length and bytes
 pub record WellFormed (p : Parts) : Type 0 where

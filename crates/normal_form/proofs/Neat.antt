@@ -1,6 +1,6 @@
 -- Neat fields, with well-formed tags and tidy contents, and what a text that is written of them holds.
 use Rattle.std.proofs.Common.{◌≡◌, ℕ, ◌+◌, ◌*◌, ◌<◌, ◌≤◌, true, ◌&&◌, ◌||◌, eqb, List, [], ◌∷◌, ◌++◌, length, Some, None, codes, Option, refl, ⊎_elim, arith}
-use Rattle.std.specs.List.{AllByRecursion as All}
+use Rattle.std.specs.List.{AllByRecursion}
 use Rattle.std.proofs.ByRecursion.{All-weaker}
 use Rattle.std.proofs.lemmas.List.{length-append}
 use Rattle.std.proofs.lemmas.Bool.{and_parts, and_from, or_cases, eqb-true}
@@ -30,7 +30,7 @@ tidy_length : (c : List ℕ) → tidy c ≡ true → length c ≤ 220
 tidy_length c h = let b = (and_parts (between 1 220 (length c)) (laid c) h).0 in grind (arith, nat_tests)
 
 -- a neat field can be written
-pub neat_ok : (xs : List Item) → All Neat xs → All ItemOk xs
+pub neat_ok : (xs : List Item) → AllByRecursion Neat xs → AllByRecursion ItemOk xs
 neat_ok = All-weaker Neat ItemOk (λ x n. record { tag = n.tag; content = laid_content x.content (tidy_laid x.content n.content) })
 
 -- ---- the bytes of what is written are carried
@@ -43,7 +43,7 @@ letter_carried (Some c) after h a = and_from (carried c) (every carried after) (
 digit_carried : (b : ℕ) → digit b ≡ true → carried b ≡ true
 digit_carried b h = grind (arith, nat_tests)
 
-pub written_carried : (xs : List Item) → All Neat xs → every carried (written xs []) ≡ true
+pub written_carried : (xs : List Item) → AllByRecursion Neat xs → every carried (written xs []) ≡ true
 written_carried [] n = refl
 written_carried (x ∷ xs) n =
     let t = and_parts (digit x.tag.tens) (digit x.tag.units && letter_ok x.tag.letter) n.0.tag in
@@ -53,7 +53,7 @@ written_carried (x ∷ xs) n =
     (and_from (carried x.tag.units) _ (digit_carried x.tag.units u.0)
     (letter_carried x.tag.letter (58 ∷ (x.content ++ 13 ∷ 10 ∷ written xs [])) u.1 content))
 
-pub rendered_carried : (p : Parts) → every carried p.basic ≡ true → every carried p.application ≡ true → user_fits p.user → All Neat p.fields → every carried (rendered p) ≡ true
+pub rendered_carried : (p : Parts) → every carried p.basic ≡ true → every carried p.application ≡ true → user_fits p.user → AllByRecursion Neat p.fields → every carried (rendered p) ≡ true
 rendered_carried p b a u n =
     every_append carried p.basic _ b
     (every_append carried p.application _ a
@@ -66,7 +66,7 @@ letter_length None after = omega arith
 letter_length (Some c) after = omega arith
 
 -- a field takes at most 227 bytes: up to five of its tag and its colons, up to 220 of its content, and CR LF
-pub written_length : (xs : List Item) → All Neat xs → length (written xs []) ≤ 227 * length xs + 2
+pub written_length : (xs : List Item) → AllByRecursion Neat xs → length (written xs []) ≤ 227 * length xs + 2
 written_length [] n = omega arith
 written_length (x ∷ xs) n =
     let rest = written xs [] in
@@ -125,7 +125,7 @@ pub record Sized (p : Parts) : Type 0 where
   pub some : 0 < length (rendered p)
   pub most : length (rendered p) ≤ 9935
 
-pub rendered_sized : (p : Parts) → PartsOk p → All Neat p.fields → length p.fields ≤ 43 → Sized p
+pub rendered_sized : (p : Parts) → PartsOk p → AllByRecursion Neat p.fields → length p.fields ≤ 43 → Sized p
 rendered_sized p ok n few =
     let four = codes "{4:" ++ 13 ∷ 10 ∷ written p.fields [] in
     let b = basic_length p.basic ok.basic in

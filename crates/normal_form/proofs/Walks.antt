@@ -1,7 +1,7 @@
 -- Which formats take the fields of a text follows from the rows and the tags alone.
 use Rattle.std.proofs.Common.{◌≡◌, ℕ, Bool, true, false, cond, List, [], ◌∷◌, map, Some, None, Ok, Err, Option, Result, refl, ap, ◌∙◌, arith}
 use Rattle.std.specs.Option.{option_map}
-use Rattle.std.specs.List.{AllByRecursion as All}
+use Rattle.std.specs.List.{AllByRecursion}
 use Rattle.mt_text.specs.Refusals.{Refusal, refused_at}
 use Rattle.fields.specs.declared.tags.Tag.{Tag}
 use Rattle.fields.specs.declared.scan.Field.{Field}
@@ -34,7 +34,7 @@ tags_of ts = map (λ f. f.tag) (fields_of ts)
 
 -- each field is accepted by the format that took it
 abbrev pub AllAccepted : {F : Type 0} → Meaning F → List ℕ → List (Taken F) → Type 0
-AllAccepted m text ts = All (λ t. (m.format t.format).accepts (shown text t.field).content ≡ true) ts
+AllAccepted m text ts = AllByRecursion (λ t. (m.format t.format).accepts (shown text t.field).content ≡ true) ts
 
 -- so it is in a sound text
 pub all_accepted : {F : Type 0} (m : Meaning F) (s : List ℕ) (x : Sound F) → sound m s ≡ Ok x → AllAccepted m s x.taken

@@ -1,7 +1,7 @@
 -- The normal parts of a sound text are well-formed, and the normal text is short.
 use Rattle.std.proofs.Common.{◌≡◌, ℕ, ◌-◌, ◌≤◌, true, ◌||◌, eqb, List, [], ◌∷◌, map, length, drop, is_some, Some, None, Ok, Err, Option, Result, sym, refl, ap, ◌∙◌, subst, arith}
 use Rattle.std.specs.Option.{option_map}
-use Rattle.std.specs.List.{AllByRecursion as All}
+use Rattle.std.specs.List.{AllByRecursion}
 use Rattle.std.proofs.lemmas.List.{length-map}
 use Rattle.std.proofs.lemmas.Bool.{and_parts, and_from}
 use Rattle.std.proofs.lemmas.Bool.Decides.{nat_tests}
@@ -62,7 +62,7 @@ fields_shown text (Ok b) = refl
 fields_shown text (Err x) = refl
 
 -- with normal contents they are neat
-neat_items : {F : Type 0} (m : Meaning F) → KeepsLaws m → (text : List ℕ) (ts : List (Taken F)) → All ItemOk (map (shown text) (map (λ t. t.field) ts)) → All (Fits m text) ts → All Neat (map (normal_item m text) ts)
+neat_items : {F : Type 0} (m : Meaning F) → KeepsLaws m → (text : List ℕ) (ts : List (Taken F)) → AllByRecursion ItemOk (map (shown text) (map (λ t. t.field) ts)) → AllByRecursion (Fits m text) ts → AllByRecursion Neat (map (normal_item m text) ts)
 neat_items m laws text [] ok fits = tt
 neat_items m laws text (t ∷ ts) ok fits =
     let f = laws.formats t.format in
@@ -87,10 +87,10 @@ module _ {F : Type 0} (m : Meaning F) (laws : KeepsLaws m) (s : List ℕ) (x : S
   found = accepted s x.layout went.laid
 
   -- its normal fields, parts and text
-  pub normal_neat : All Neat (map (normal_item m s) x.taken)
+  pub normal_neat : AllByRecursion Neat (map (normal_item m s) x.taken)
   normal_neat =
       let same = fields_shown s (body_at s x.layout.body) ∙ ap (map (shown s)) (sym fields_are) in
-      neat_items m laws s x.taken (subst (All ItemOk) same found.fields) (taken_accepted m s x.layout.hyphen 0 went.rows (fields_in s x.layout) x.taken went.walked)
+      neat_items m laws s x.taken (subst (AllByRecursion ItemOk) same found.fields) (taken_accepted m s x.layout.hyphen 0 went.rows (fields_in s x.layout) x.taken went.walked)
 
   pub normal_parts_ok : PartsOk (normal_parts m s x)
   normal_parts_ok = record { basic = found.basic; application = found.application; user = user_kept _ found.user; fields = neat_ok _ normal_neat }

@@ -1,6 +1,6 @@
 -- The row that takes a field is the only one of its type that has the field's tag.
 use Rattle.std.proofs.Common.{◌≡◌, ℕ, zero, suc, ◌+◌, Bool, true, false, cond, not, ◌&&◌, eqb, ltb, leb, List, [], ◌∷◌, drop, Some, None, Ok, Option, sym, refl, ap, ◌∙◌, subst, arith}
-use Rattle.std.specs.List.{AllByRecursion as All}
+use Rattle.std.specs.List.{AllByRecursion}
 use Rattle.std.proofs.lemmas.List.{drop-drop}
 use Rattle.std.proofs.lemmas.Bool.{and_parts, eqb-true, cond-true}
 use Rattle.fields.specs.declared.tags.Tag.{Tag}
@@ -78,11 +78,11 @@ module _ {F : Type 0} where
 abbrev pub ByTag : {F : Type 0} → List (Row F) → Taken F → Type 0
 ByTag rows t = format_for t.field.tag rows ≡ Some t.format
 
-pub formats_by_tag : {F : Type 0} (m : Meaning F) (text : List ℕ) (h : ℕ) (rows : List (Row F)) → rows_ok rows ≡ true → (n j : ℕ) (rs : List (Row F)) → drop j rows ≡ rs → (fs : List Field) (ts : List (Taken F)) → assigned m text h n rs fs ≡ Ok ts → All (ByTag rows) ts
-formats_by_tag m text h rows ok n j rs d [] ts e = subst (All (ByTag rows)) (took_none m text h n rs ts e).1 tt
+pub formats_by_tag : {F : Type 0} (m : Meaning F) (text : List ℕ) (h : ℕ) (rows : List (Row F)) → rows_ok rows ≡ true → (n j : ℕ) (rs : List (Row F)) → drop j rows ≡ rs → (fs : List Field) (ts : List (Taken F)) → assigned m text h n rs fs ≡ Ok ts → AllByRecursion (ByTag rows) ts
+formats_by_tag m text h rows ok n j rs d [] ts e = subst (AllByRecursion (ByTag rows)) (took_none m text h n rs ts e).1 tt
 formats_by_tag m text h rows ok n j rs d (f ∷ fs) ts e =
     let t = took m text h n rs f fs ts e in
     let r = found_row f.tag n rs t.row t.behind t.count t.place in
     let there : drop (j + r.place) rows ≡ t.row ∷ t.behind = sym (drop-drop r.place j rows) ∙ ap (drop r.place) d ∙ r.there in
-    subst (All (ByTag rows)) t.is
+    subst (AllByRecursion (ByTag rows)) t.is
     (format_at f.tag rows (j + r.place) t.row t.behind ok there r.tagged, formats_by_tag m text h rows ok t.count (j + r.place) (t.row ∷ t.behind) there fs t.rest t.goes_on)

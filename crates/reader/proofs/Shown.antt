@@ -1,6 +1,6 @@
 -- Field i of a sound text, from the fields that were laid out.
 use Rattle.std.proofs.Common.{◌≡◌, ℕ, zero, suc, List, [], ◌∷◌, map, Some, None, Ok, Err, Option, Result, sym, refl, ap, ◌∙◌, subst, arith}
-use Rattle.std.specs.List.{slice_get, AllByRecursion as All}
+use Rattle.std.specs.List.{slice_get, AllByRecursion}
 use Rattle.std.specs.Option.{option_map}
 use Rattle.mt_text.specs.Refusals.{Refusal}
 use Rattle.fields.specs.declared.scan.Field.{Field}
@@ -44,7 +44,7 @@ module _ {F : Type 0} (m : Meaning F) (text : List ℕ) (l : Layout) (r : Read m
   viewed_at i o e = ap (λ o. Ok (option_map (viewed m text) o)) (sym e) ∙ ap (λ q. heed q (λ s. Ok (option_map (viewed m text) (slice_get s.taken i)))) (sym r.is_sound)
 
   -- the field at a place, with the format of its row
-  at_place : (rows : List (Row F)) (ts : List (Taken F)) (i : ℕ) (f : Field) → All (ByTag rows) ts → Some f ≡ slice_get (map (λ t. t.field) ts) i → (t : Taken F) × (slice_get ts i ≡ Some t) × (t.field ≡ f) × (format_for f.tag rows ≡ Some t.format)
+  at_place : (rows : List (Row F)) (ts : List (Taken F)) (i : ℕ) (f : Field) → AllByRecursion (ByTag rows) ts → Some f ≡ slice_get (map (λ t. t.field) ts) i → (t : Taken F) × (slice_get ts i ≡ Some t) × (t.field ≡ f) × (format_for f.tag rows ≡ Some t.format)
   at_place rows [] i f h e = absurd (grind arith)
   at_place rows (t ∷ ts) zero f h e =
       let same : t.field ≡ f = cc in
@@ -73,7 +73,7 @@ module _ {F : Type 0} (m : Meaning F) (text : List ℕ) (l : Layout) (r : Read m
         let q = rows_are ∙ p.has_type in
         let same : p.rows ≡ rows = cc in
         at_place rows r.taken i f
-        (subst (λ rs. All (ByTag rs) r.taken) same (formats_by_tag m text l.hyphen p.rows (laws.rows l.message_type p.rows p.has_type) 0 0 p.rows refl (fields_in text l) r.taken p.walked))
+        (subst (λ rs. AllByRecursion (ByTag rs) r.taken) same (formats_by_tag m text l.hyphen p.rows (laws.rows l.message_type p.rows p.has_type) 0 0 p.rows refl (fields_in text l) r.taken p.walked))
         (e ∙ ap (λ fs. slice_get fs i) (sym fields_are))
 
     pub has_format : None ≡ format_for f.tag rows → ⊥

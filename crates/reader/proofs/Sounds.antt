@@ -1,6 +1,6 @@
 -- What a sound text went through, and the fields that were taken.
 use Rattle.std.proofs.Common.{◌≡◌, ℕ, ◌≤◌, Bool, true, false, cond, leb, List, [], ◌∷◌, map, length, Some, None, Ok, Err, Option, Result, sym, refl, ap, ◌∙◌, subst, arith}
-use Rattle.std.specs.List.{slice_get, AllByRecursion as All}
+use Rattle.std.specs.List.{slice_get, AllByRecursion}
 use Rattle.std.proofs.lemmas.Bool.{leb-true, le-leb}
 use Rattle.mt_text.specs.Refusals.{Refusal, refused_at}
 use Rattle.fields.specs.declared.scan.Field.{Field}
@@ -118,8 +118,8 @@ module _ {F : Type 0} (m : Meaning F) (text : List ℕ) (h : ℕ) where
       ap (map (λ u. u.field)) (sym t.is) ∙ ap (λ l. f ∷ l) (taken_fields t.count (t.row ∷ t.behind) fs t.rest t.goes_on)
 
   -- each content is accepted by its format
-  pub taken_accepted : (n : ℕ) (rs : List (Row F)) (fs : List Field) (ts : List (Taken F)) → assigned m text h n rs fs ≡ Ok ts → All (Fits m text) ts
-  taken_accepted n rs [] ts e = subst (All (Fits m text)) (took_none n rs ts e).1 tt
+  pub taken_accepted : (n : ℕ) (rs : List (Row F)) (fs : List Field) (ts : List (Taken F)) → assigned m text h n rs fs ≡ Ok ts → AllByRecursion (Fits m text) ts
+  taken_accepted n rs [] ts e = subst (AllByRecursion (Fits m text)) (took_none n rs ts e).1 tt
   taken_accepted n rs (f ∷ fs) ts e =
       let t = took n rs f fs ts e in
-      subst (All (Fits m text)) t.is (t.accepts, taken_accepted t.count (t.row ∷ t.behind) fs t.rest t.goes_on)
+      subst (AllByRecursion (Fits m text)) t.is (t.accepts, taken_accepted t.count (t.row ∷ t.behind) fs t.rest t.goes_on)
