@@ -4,7 +4,8 @@
 usage: python3 tools/respell.py [FOLDER]     in FOLDER (or here), after port.py: rewrites crates/, README.md and docs/ in place
 
 A name is turned where specs/ or proofs/ of some crate declares it with a hyphen: `real-date` becomes `real_date`,
-`Says-same` becomes `SaysSame`. Names that the checker makes (of goals, loops and returns) and names of the standard
+`Says-same` becomes `SaysSame`. A definition in small letters that gives a fact, `user-fits : .. → Type 0`, becomes
+`UserFits`. Names that the checker makes (of goals, loops and returns) and names of the standard
 library keep their hyphens, since no file here declares them. Functions of src/, strings and test data are left alone.
 Where two declared names would fall together nothing is written; a name that a function or a field of the same file has
 already is printed, since only a reader sees whether the two are kept apart there.
@@ -16,7 +17,10 @@ import sys
 NAME = r"[^\W\d_·][\w'·]*(?:-[\w'·]+)*|_[\w'·]+(?:-[\w'·]+)*"
 TOKEN = re.compile(r"(?<![\w'·-])(?:%s)(?![\w'·-])" % NAME)
 LEFT = re.compile(r"^\s*(?:(?:abbrev|unfoldable|pub)\s+)*((?:[^\W\d][\w'·-]*\s+)*[^\W\d][\w'·-]*)\s*:\s+(.*)")
+FACT = re.compile(r"^\s*(?:(?:abbrev|unfoldable|pub)\s+)+([a-z][\w'·]*[_-][\w'·-]*)\s*:\s.*Type 0\s*$")
 HEAD = re.compile(r"^\s*(?:pub\s+)?(?:record|data)\s+([^\W\d][\w'·-]*)")
+# names of variables and of imports, which no line declares
+OTHERS = ("leap-year", "c-at", "no-brace", "here-is", "User-item", "Field-item", "fields-trip", "fields-accepted")
 STRING = re.compile(r'"(?:[^"\\\n]|\\.)*"')
 
 
@@ -28,26 +32,30 @@ def files(root):
                 yield os.path.join(folder, name)
 
 
+def camel(name):
+    return "".join(w[0].upper() + w[1:] for w in re.split("[-_]", name))
+
+
 def turned(name):
-    words = name.split("-")
-    if name[0].isupper():
-        return "".join(w[0].upper() + w[1:] for w in words)
-    return "_".join(words)
+    return camel(name) if name[0].isupper() else name.replace("-", "_")
 
 
 def declared(path):
-    """The hyphenated names that a file of specs/ or proofs/ declares; answers to goals are not its own."""
-    found = set()
+    """The names to be turned that a file of specs/ or proofs/ declares, each with its new one; answers to goals are not its own."""
+    found, facts = set(), set()
     for line in open(path, encoding="utf-8"):
         if line.lstrip().startswith(("--", "use ")):
             continue
         m = HEAD.match(line)
         if m:
             found.add(m[1])
+        m = FACT.match(line)
+        if m and "goal." not in line:
+            facts.add(m[1])
         m = LEFT.match(line)
         if m and not m[2].startswith("goal.") and "=" not in line[: m.end(1)]:
             found.update(m[1].split())
-    return {n for n in found if "-" in n and n not in ("abbrev", "pub")}
+    return {n: turned(n) for n in found if "-" in n} | {n: camel(n) for n in facts}
 
 
 def tokens(text):
@@ -68,11 +76,10 @@ def main():
     root = sys.argv[1] if len(sys.argv) > 1 else "."
     all_files = list(files(root))
     texts = {p: open(p, encoding="utf-8").read() for p in all_files}
-    names = {}
+    names = {n: turned(n) for n in OTHERS}
     for p in all_files:
         if p.endswith(".antt"):
-            for n in declared(p):
-                names[n] = turned(n)
+            names |= declared(p)
     clashes = 0
     by_new = {}
     for old, new in names.items():

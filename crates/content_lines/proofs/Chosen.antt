@@ -29,10 +29,10 @@ told_some None h = absurd (grind arith)
 pair_digits : (at : ℕ) (bs : List ℕ) (n : ℕ) → pair at bs ≡ Some n → (digit (get_or bs at 0) ≡ true) × (digit (get_or bs (at + 1) 0) ≡ true)
 pair_digits at bs n h = and_parts (digit (get_or bs at 0)) (digit (get_or bs (at + 1) 0)) (passed (digit (get_or bs at 0) && digit (get_or bs (at + 1) 0)) (Some ((get_or bs at 0 - 48) * 10 + (get_or bs (at + 1) 0 - 48))) n h).0
 
-abbrev two : ℕ → List ℕ → Type 0
-two at bs = (digit (get_or bs at 0) ≡ true) × (digit (get_or bs (at + 1) 0) ≡ true)
+abbrev TwoDigits : ℕ → List ℕ → Type 0
+TwoDigits at bs = (digit (get_or bs at 0) ≡ true) × (digit (get_or bs (at + 1) 0) ≡ true)
 
-six : (bs : List ℕ) → length bs ≡ 6 → two 0 bs → two 2 bs → two 4 bs → every digit bs ≡ true
+six : (bs : List ℕ) → length bs ≡ 6 → TwoDigits 0 bs → TwoDigits 2 bs → TwoDigits 4 bs → every digit bs ≡ true
 six [] l p q r = absurd (omega arith)
 six (a ∷ []) l p q r = absurd (omega arith)
 six (a ∷ b ∷ []) l p q r = absurd (omega arith)
@@ -42,7 +42,7 @@ six (a ∷ b ∷ c ∷ d ∷ e ∷ []) l p q r = absurd (omega arith)
 six (a ∷ b ∷ c ∷ d ∷ e ∷ f ∷ []) l p q r = (λ i. p.0 i && (p.1 i && (q.0 i && (q.1 i && (r.0 i && (r.1 i && true))))))
 six (a ∷ b ∷ c ∷ d ∷ e ∷ f ∷ g ∷ bs) l p q r = absurd (omega arith)
 
-four : (bs : List ℕ) → length bs ≡ 4 → two 0 bs → two 2 bs → every digit bs ≡ true
+four : (bs : List ℕ) → length bs ≡ 4 → TwoDigits 0 bs → TwoDigits 2 bs → every digit bs ≡ true
 four [] l p q = absurd (omega arith)
 four (a ∷ []) l p q = absurd (omega arith)
 four (a ∷ b ∷ []) l p q = absurd (omega arith)

@@ -277,7 +277,7 @@ no_second places bs o e = sym (cond-false (one_line bs) _ _ (ne_eqb (line_end bs
 
 abbrev code_in : Parts → List ℕ
 code_in (code c at) = c
-code_in (account_and_code a a_at c c-at) = c
+code_in (account_and_code a a_at c c_at) = c
 
 -- the code that is handed out is the part behind the head
 pub code_handed : (places : Places) (bs : List ℕ) (p : Party) → parts_of (Some p) ≡ party_of places bs → (is_some (party_of places bs) ≡ true) × (code_told p ≡ code_part bs)
@@ -296,8 +296,8 @@ code_handed places bs p e =
   where
     some_parts : (p : Party) → is_some (parts_of (Some p)) ≡ true
     some_parts (Code c at) = refl
-    some_parts (AccountAndCode a a_at c c-at) = refl
+    some_parts (AccountAndCode a a_at c c_at) = refl
 
     by : (p : Party) (q : Parts) → parts_of (Some p) ≡ Some q → code_told p ≡ code_in q
     by (Code c at) q e = let f : code c.now at ≡ q = cc in ap code_in f
-    by (AccountAndCode a a_at c c-at) q e = let f : account_and_code a.now a_at c.now c-at ≡ q = cc in ap code_in f
+    by (AccountAndCode a a_at c c_at) q e = let f : account_and_code a.now a_at c.now c_at ≡ q = cc in ap code_in f

@@ -44,18 +44,18 @@ party_of places bs =
 -- what `read_party` tells, its parts by their bytes
 abbrev pub parts_of : Option Party → Option Parts
 parts_of (Some (Code c at)) = Some (code c.now at)
-parts_of (Some (AccountAndCode a a_at c c-at)) = Some (account_and_code a.now a_at c.now c-at)
+parts_of (Some (AccountAndCode a a_at c c_at)) = Some (account_and_code a.now a_at c.now c_at)
 parts_of None = None
 
 -- the bank code among them
 abbrev pub code_told : Party → List ℕ
 code_told (Code c at) = c.now
-code_told (AccountAndCode a a_at c c-at) = c.now
+code_told (AccountAndCode a a_at c c_at) = c.now
 
 -- the account that a party tells, if it has an account line
 abbrev pub account_of : Option Parts → Option (List ℕ)
 account_of (Some (code c at)) = None
-account_of (Some (account_and_code a a_at c c-at)) = Some a
+account_of (Some (account_and_code a a_at c c_at)) = Some a
 account_of None = None
 
 -- where the bank code begins; before it stands the account line with its CR LF, or nothing

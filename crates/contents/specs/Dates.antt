@@ -11,11 +11,11 @@ leap year = year % 4 == 0 && (not (year % 100 == 0) || year % 400 == 0)
 
 -- how many days a month has: February 28 or 29, April, June, September and November 30, the others 31
 abbrev pub days_in : Bool → ℕ → ℕ
-days_in leap-year month = cond (month == 2) (cond leap-year 29 28) (cond (among (4 ∷ 6 ∷ 9 ∷ 11 ∷ []) month) 30 31)
+days_in leap_year month = cond (month == 2) (cond leap_year 29 28) (cond (among (4 ∷ 6 ∷ 9 ∷ 11 ∷ []) month) 30 31)
 
 -- a month of the twelve, and a day that it has
 abbrev pub real_day : Bool → ℕ → ℕ → Bool
-real_day leap-year month day = between 1 12 month && between 1 (days_in leap-year month) day
+real_day leap_year month day = between 1 12 month && between 1 (days_in leap_year month) day
 
 -- two digits of a year: 80 to 99 are 1980 to 1999, 00 to 79 are 2000 to 2079
 abbrev pub full_year : ℕ → ℕ
@@ -51,8 +51,8 @@ days_of_years zero = 0
 days_of_years (suc n) = days_of_years n + year_length (1980 + n)
 
 abbrev pub days_of_months : Bool → ℕ → ℕ
-days_of_months leap-year zero = 0
-days_of_months leap-year (suc n) = days_of_months leap-year n + days_in leap-year (suc n)
+days_of_months leap_year zero = 0
+days_of_months leap_year (suc n) = days_of_months leap_year n + days_in leap_year (suc n)
 
 -- which day it is, counted from 1 on 1 January 1980
 abbrev pub day_count : Date → ℕ

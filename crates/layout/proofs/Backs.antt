@@ -24,21 +24,21 @@ use Rattle.std.specs.List.{AllByRecursion}
 use Rattle.fields.specs.declared.scan.Body.{Body}
 use Rattle.fields.specs.Fields.{Found, body_at, sized}
 use Rattle.fields.specs.Written.{ItemOk}
-use Rattle.fields.proofs.Backs.{accepted as fields-accepted}
+use Rattle.fields.proofs.Backs.{accepted as fields_accepted}
 use Rattle.layout.specs.declared.walk.Layout.{Layout}
 use Rattle.layout.specs.declared.walk.Opening.{Opening}
 use Rattle.layout.specs.Walk.{heed, wanted, opened, application_at, opening_at, body_start, end_at, made_of, walked}
-use Rattle.layout.specs.Render.{value_fits, UserOk, user_fits, bytes_at, values_of, fields_of, parts_of, PartsOk, Accepted}
+use Rattle.layout.specs.Render.{ValueFits, UserOk, UserFits, bytes_at, values_of, fields_of, parts_of, PartsOk, Accepted}
 use Rattle.layout.proofs.UserTrips.{putted}
 
 -- ---- the values of block 3
 
 -- each value that is given is as its item asks
 record SlotsOk (text : List ℕ) (h : UserHeader) : Type 0 where
-  reference : value_fits UserReference (option_map (bytes_at text) h.user_reference)
-  service : value_fits ServiceType (option_map (bytes_at text) h.service_type)
-  priority : value_fits Priority (option_map (bytes_at text) h.priority)
-  tracking : value_fits Tracking (option_map (bytes_at text) h.tracking)
+  reference : ValueFits UserReference (option_map (bytes_at text) h.user_reference)
+  service : ValueFits ServiceType (option_map (bytes_at text) h.service_type)
+  priority : ValueFits Priority (option_map (bytes_at text) h.priority)
+  tracking : ValueFits Tracking (option_map (bytes_at text) h.tracking)
 
 putted_ok : (text : List ℕ) (k : Item) (s : Span) (h : UserHeader) → value_ok k (bytes_at text s) ≡ true → SlotsOk text h → SlotsOk text (putted k s h)
 putted_ok text UserReference s h v ok = record { reference = v; service = ok.service; priority = ok.priority; tracking = ok.tracking }
@@ -177,26 +177,26 @@ headers_back text a e = by (is_basic (take 29 text)) refl e
     by false p q = absurd (grind arith)
 
 -- block 3
-opening_back : (text : List ℕ) (i : ℕ) (o : Opening) → opening_at text i ≡ Ok o → user_fits (option_map (values_of text) o.user)
+opening_back : (text : List ℕ) (i : ℕ) (o : Opening) → opening_at text i ≡ Ok o → UserFits (option_map (values_of text) o.user)
 opening_back text i o e = by (starts (codes "{3:") (drop i text)) e
   where
-    by : (x : Bool) → cond x (heed (wanted (user_at text i) i) opened) (Ok (record { user = None; at = i })) ≡ Ok o → user_fits (option_map (values_of text) o.user)
+    by : (x : Bool) → cond x (heed (wanted (user_at text i) i) opened) (Ok (record { user = None; at = i })) ≡ Ok o → UserFits (option_map (values_of text) o.user)
     by true q =
         let h = heed_back (wanted (user_at text i) i) opened o q in
         let b = h.0 in
         let r = h.2 in
         let u : Some b.header ≡ o.user = cc in
-        subst (λ (v : Option UserHeader). user_fits (option_map (values_of text) v)) u (user_back text i b (wanted_back (user_at text i) i b h.1))
+        subst (λ (v : Option UserHeader). UserFits (option_map (values_of text) v)) u (user_back text i b (wanted_back (user_at text i) i b h.1))
     by false q =
         let u : None ≡ o.user = cc in
-        subst (λ (v : Option UserHeader). user_fits (option_map (values_of text) v)) u tt
+        subst (λ (v : Option UserHeader). UserFits (option_map (values_of text) v)) u tt
 
 -- block 4
 fields_back : (text : List ℕ) (s : ℕ) (b : Body) → s ≤ length text → sized (body_at text s) ≡ Ok b → AllByRecursion ItemOk (fields_of text (body_at text s))
 fields_back text s b l e = by (body_at text s) refl e
   where
     by : (r : Result Found Refusal) → body_at text s ≡ r → sized r ≡ Ok b → AllByRecursion ItemOk (fields_of text r)
-    by (Ok f) p q = (fields-accepted text s f l p).ok
+    by (Ok f) p q = (fields_accepted text s f l p).ok
     by (Err x) p q = absurd (grind arith)
 
 -- the first line begins in the text, or at its end

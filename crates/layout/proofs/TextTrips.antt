@@ -16,10 +16,10 @@ use Rattle.headers.proofs.Starts.{starts_decides}
 use Rattle.fields.specs.declared.scan.Body.{Body}
 use Rattle.fields.specs.Fields.{Found, body_at, sized}
 use Rattle.fields.specs.Written.{Item, ItemOk, written, shown, Finds}
-use Rattle.fields.proofs.Trips.{round_trip as fields-trip}
+use Rattle.fields.proofs.Trips.{round_trip as fields_trip}
 use Rattle.layout.specs.declared.walk.Opening.{Opening}
 use Rattle.layout.specs.Walk.{heed, wanted, opened, application_at, opening_at, body_start, end_at, made_of, walked}
-use Rattle.layout.specs.Render.{User, Parts, user_then, rendered, user_fits, WellFormed, values_of, fields_of, LaysOut, RoundTrip}
+use Rattle.layout.specs.Render.{User, Parts, user_then, rendered, UserFits, WellFormed, values_of, fields_of, LaysOut, RoundTrip}
 use Rattle.layout.proofs.UserTrips.{h4, i4, values_are, all_items, all_behind}
 
 -- ---- block 2 and what follows it
@@ -71,7 +71,7 @@ record Third (text : List ℕ) (i : ℕ) (u : Option User) (after : List ℕ) (o
   left : drop o.at text ≡ after
   values : option_map (values_of text) o.user ≡ u
 
-third : (text : List ℕ) (i : ℕ) (u : Option User) (xs : List Item) → user_fits u → drop i text ≡ user_then u (four xs) → (o : Opening) × Third text i u (four xs) o
+third : (text : List ℕ) (i : ℕ) (u : Option User) (xs : List Item) → UserFits u → drop i text ≡ user_then u (four xs) → (o : Opening) × Third text i u (four xs) o
 third text i None xs ok is = (
   record { user = None; at = i },
   record {
@@ -106,7 +106,7 @@ fourth : (text : List ℕ) (s : ℕ) (xs : List Item) → AllByRecursion ItemOk 
 fourth text s xs ok l is =
     let whole : take s text ++ written xs [] ≡ text = ap (λ t. take s text ++ t) (sym is) ∙ take-append-drop s text in
     let at : length (take s text) ≡ s = length-take-le s text l in
-    let t = fields-trip (take s text) xs [] ok in
+    let t = fields_trip (take s text) xs [] ok in
     let f : Finds text s xs [] t.0 = subst (λ (q : List ℕ). Finds q s xs [] t.0) whole (subst (λ (n : ℕ). Finds (take s text ++ written xs []) n xs [] t.0) at t.1) in
     (t.0, record { found = f.found; same = f.same; ends = omega (arith, f.ends) })
 

@@ -13,16 +13,16 @@ use Rattle.headers.specs.declared.user.Item.TheVariants.{UserReference, ServiceT
 use Rattle.headers.specs.declared.user.Step.TheVariants.{More, Closed}
 use Rattle.headers.specs.User.{small_hex, hyphen_place, tracked, value_ok, item_of, put_in, nothing, is_given, step_at, steps_then, steps_within}
 use Rattle.headers.proofs.Steps.{placed}
-use Rattle.layout.specs.Render.{User, item_then, value_fits, UserOk, bytes_at, values_of}
+use Rattle.layout.specs.Render.{User, item_then, ValueFits, UserOk, bytes_at, values_of}
 
 -- ---- no value holds a brace
 
 place_behind : (v after : List ℕ) (test : ℕ → Bool) → ((b : ℕ) → test b ≡ true → eqb b 125 ≡ false) → every test v ≡ true → place 125 (v ++ 125 ∷ after) ≡ length v
-place_behind [] after test no-brace h = refl
-place_behind (b ∷ v) after test no-brace h =
+place_behind [] after test no_brace h = refl
+place_behind (b ∷ v) after test no_brace h =
     let p = and_parts (test b) (every test v) h in
-    let n = no-brace b p.0 in
-    (λ i. cond (n i) 0 (place_behind v after test no-brace p.1 i + 1)) ∙ omega arith
+    let n = no_brace b p.0 in
+    (λ i. cond (n i) 0 (place_behind v after test no_brace p.1 i + 1)) ∙ omega arith
 
 place_tracked : (i : ℕ) (v after : List ℕ) → tracked i v ≡ true → place 125 (v ++ 125 ∷ after) ≡ length v
 place_tracked i [] after h = refl
@@ -117,7 +117,7 @@ record Stage (text : List ℕ) (k : Item) (o : Option (List ℕ)) (i : ℕ) (h :
   left : drop (next_at o i) text ≡ after
   value : option_map (bytes_at text) (slot k (next_with k o i h)) ≡ o
 
-stage : (text : List ℕ) (k : Item) (o : Option (List ℕ)) (i : ℕ) (h : UserHeader) (after : List ℕ) → value_fits k o → slot k h ≡ None → drop i text ≡ item_then (word k) o after → Stage text k o i h after
+stage : (text : List ℕ) (k : Item) (o : Option (List ℕ)) (i : ℕ) (h : UserHeader) (after : List ℕ) → ValueFits k o → slot k h ≡ None → drop i text ≡ item_then (word k) o after → Stage text k o i h after
 stage text k None i h after ok free is =
     record { goes = λ m. ap (λ n. steps_within n text i h) (zero-add m); left = is; value = ap (option_map (bytes_at text)) free }
 stage text k (Some v) i h after ok free is =

@@ -13,7 +13,7 @@ use Rattle.headers.specs.Basic.{is_basic}
 use Rattle.headers.specs.Application.{is_input, is_output}
 use Rattle.headers.specs.User.{value_ok}
 use Rattle.fields.specs.Fields.{Found, body_at}
-use Rattle.fields.specs.Written.{Item as Field-item, ItemOk, written, shown}
+use Rattle.fields.specs.Written.{Item as FieldItem, ItemOk, written, shown}
 use Rattle.layout.specs.declared.walk.Layout.{Layout}
 use Rattle.layout.specs.Walk.{laid_out}
 
@@ -29,7 +29,7 @@ pub record Parts : Type 0 where
   pub basic : List ℕ
   pub application : List ℕ
   pub user : Option User
-  pub fields : List Field-item
+  pub fields : List FieldItem
 
 -- ---- what is written
 
@@ -55,27 +55,27 @@ rendered p = p.basic ++ (p.application ++ user_then p.user (codes "{4:" ++ 13 �
 
 -- ---- which parts can be written
 
-abbrev pub value_fits : Item → Option (List ℕ) → Type 0
-value_fits k None = Unit {0}
-value_fits k (Some v) = value_ok k v ≡ true
+abbrev pub ValueFits : Item → Option (List ℕ) → Type 0
+ValueFits k None = Unit {0}
+ValueFits k (Some v) = value_ok k v ≡ true
 
 -- each value as its item asks, and at least one of them given
 pub record UserOk (u : User) : Type 0 where
-  pub reference : value_fits UserReference u.reference
-  pub service : value_fits ServiceType u.service
-  pub priority : value_fits Priority u.priority
-  pub tracking : value_fits Tracking u.tracking
+  pub reference : ValueFits UserReference u.reference
+  pub service : ValueFits ServiceType u.service
+  pub priority : ValueFits Priority u.priority
+  pub tracking : ValueFits Tracking u.tracking
   pub some : (is_some u.reference || (is_some u.service || (is_some u.priority || is_some u.tracking))) ≡ true
 
-abbrev pub user_fits : Option User → Type 0
-user_fits None = Unit {0}
-user_fits (Some u) = UserOk u
+abbrev pub UserFits : Option User → Type 0
+UserFits None = Unit {0}
+UserFits (Some u) = UserOk u
 
 -- each part as it must be
 pub record PartsOk (p : Parts) : Type 0 where
   pub basic : is_basic p.basic ≡ true
   pub application : (is_input p.application || is_output p.application) ≡ true
-  pub user : user_fits p.user
+  pub user : UserFits p.user
   pub fields : AllByRecursion ItemOk p.fields
 
 -- and the whole has a text's length and bytes
@@ -98,7 +98,7 @@ values_of text h =
       tracking = option_map (bytes_at text) h.tracking;
     }
 
-abbrev pub fields_of : List ℕ → Result Found Refusal → List Field-item
+abbrev pub fields_of : List ℕ → Result Found Refusal → List FieldItem
 fields_of text (Ok b) = map (shown text) b.fields
 fields_of text (Err x) = []
 

@@ -7,7 +7,7 @@ use Rattle.reader.specs.Meaning.{Meaning, KeepsLaws}
 use Rattle.reader.specs.Rows.{Taken}
 use Rattle.reader.specs.Texts.{Sound, sound}
 use Rattle.normal_form.specs.Normal.{normal_item, normal_parts}
-use Rattle.normal_form.specs.Same.{content_of, SameField, same_fields, SaysSame}
+use Rattle.normal_form.specs.Same.{content_of, SameField, SameFields, SaysSame}
 use Rattle.normal_form.specs.Laws.{ToldApart}
 use Rattle.normal_form.proofs.Sounds.{passed_all}
 use Rattle.normal_form.proofs.WellFormed.{normal_well_formed}
@@ -37,20 +37,20 @@ module _ {F : Type 0} (m : Meaning F) (laws : KeepsLaws m) (s t : List ℕ) wher
         }
 
   -- so for all fields in order
-  same_items : (xs ys : List (Taken F)) → formats_of xs ≡ formats_of ys → AllAccepted m s xs → AllAccepted m t ys → same_fields m s t xs ys → map (normal_item m s) xs ≡ map (normal_item m t) ys
+  same_items : (xs ys : List (Taken F)) → formats_of xs ≡ formats_of ys → AllAccepted m s xs → AllAccepted m t ys → SameFields m s t xs ys → map (normal_item m s) xs ≡ map (normal_item m t) ys
   same_items [] [] p a b h = refl
   same_items [] (y ∷ ys) p a b h = absurd h
   same_items (x ∷ xs) [] p a b h = absurd h
   same_items (x ∷ xs) (y ∷ ys) p a b h = λ i. same_item x y (cc) a.0 b.0 h.0 i ∷ same_items xs ys (cc) a.1 b.1 h.1 i
 
-  items_same : (xs ys : List (Taken F)) → formats_of xs ≡ formats_of ys → AllAccepted m s xs → AllAccepted m t ys → map (normal_item m s) xs ≡ map (normal_item m t) ys → same_fields m s t xs ys
+  items_same : (xs ys : List (Taken F)) → formats_of xs ≡ formats_of ys → AllAccepted m s xs → AllAccepted m t ys → map (normal_item m s) xs ≡ map (normal_item m t) ys → SameFields m s t xs ys
   items_same [] [] p a b e = tt
   items_same [] (y ∷ ys) p a b e = absurd (grind arith)
   items_same (x ∷ xs) [] p a b e = absurd (grind arith)
   items_same (x ∷ xs) (y ∷ ys) p a b e = (item_same x y (cc) a.0 b.0 (cc), items_same xs ys (cc) a.1 b.1 (cc))
 
   -- fields that say the same have the same tags
-  same_tags : (xs ys : List (Taken F)) → same_fields m s t xs ys → tags_of xs ≡ tags_of ys
+  same_tags : (xs ys : List (Taken F)) → SameFields m s t xs ys → tags_of xs ≡ tags_of ys
   same_tags [] [] h = refl
   same_tags [] (y ∷ ys) h = absurd h
   same_tags (x ∷ xs) [] h = absurd h

@@ -9,10 +9,10 @@ use Rattle.content_lines.specs.Formats.{begins, laid}
 use Rattle.content_lines.proofs.Shapes.{every_weaker, every_append}
 use Rattle.fields.specs.Fields.{barred, opens}
 use Rattle.fields.specs.Written.{content_ok}
-use Rattle.headers.specs.declared.user.Item.{Item as User-item}
+use Rattle.headers.specs.declared.user.Item.{Item as UserItem}
 use Rattle.headers.specs.declared.user.Item.TheVariants.{UserReference, ServiceType, Priority, Tracking}
 use Rattle.headers.specs.User.{small_hex, hyphen_place, tracked, value_ok}
-use Rattle.layout.specs.Render.{User, item_then, user_then, value_fits, user_fits}
+use Rattle.layout.specs.Render.{User, item_then, user_then, ValueFits, UserFits}
 use Rattle.normal_form.proofs.Sounds.{unrefused}
 
 -- ---- the first look at a text
@@ -102,17 +102,17 @@ tracked_carried i (b ∷ v) h =
     by true q = grind (arith, nat_tests)
     by false q = grind (arith, nat_tests)
 
-value_carried : (k : User-item) (v : List ℕ) → value_ok k v ≡ true → every carried v ≡ true
+value_carried : (k : UserItem) (v : List ℕ) → value_ok k v ≡ true → every carried v ≡ true
 value_carried UserReference v h = every_weaker printable carried (λ b p. or_left (printable b) _ p) v (and_parts _ (every printable v) h).1
 value_carried ServiceType v h = every_weaker digit carried (λ b p. grind (arith, nat_tests)) v (and_parts _ (every digit v) h).1
 value_carried Priority v h = every_weaker letter_or_digit carried (λ b p. grind (arith, nat_tests)) v (and_parts _ (every letter_or_digit v) h).1
 value_carried Tracking v h = tracked_carried 0 v (and_parts _ (tracked 0 v) h).1
 
-item_carried : (k : User-item) (opening : List ℕ) (v : Option (List ℕ)) (after : List ℕ) → every carried opening ≡ true → value_fits k v → every carried after ≡ true → every carried (item_then opening v after) ≡ true
+item_carried : (k : UserItem) (opening : List ℕ) (v : Option (List ℕ)) (after : List ℕ) → every carried opening ≡ true → ValueFits k v → every carried after ≡ true → every carried (item_then opening v after) ≡ true
 item_carried k opening None after o h a = a
 item_carried k opening (Some v) after o h a = every_append carried opening (v ++ 125 ∷ after) o (every_append carried v (125 ∷ after) (value_carried k v h) a)
 
-pub user_carried : (u : Option User) (after : List ℕ) → user_fits u → every carried after ≡ true → every carried (user_then u after) ≡ true
+pub user_carried : (u : Option User) (after : List ℕ) → UserFits u → every carried after ≡ true → every carried (user_then u after) ≡ true
 user_carried None after h a = a
 user_carried (Some u) after h a =
     item_carried UserReference (codes "{108:") u.reference _ refl h.reference

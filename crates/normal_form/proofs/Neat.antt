@@ -9,12 +9,12 @@ use Rattle.mt_text.specs.Classes.{between, every, digit, printable, letter_or_di
 use Rattle.content_lines.specs.Formats.{laid, tidy}
 use Rattle.content_lines.proofs.Shapes.{every_append}
 use Rattle.fields.specs.Written.{Item, letter_ok, tag_ok, ItemOk, letter_then, written}
-use Rattle.headers.specs.declared.user.Item.{Item as User-item}
+use Rattle.headers.specs.declared.user.Item.{Item as UserItem}
 use Rattle.headers.specs.declared.user.Item.TheVariants.{UserReference, ServiceType, Priority, Tracking}
 use Rattle.headers.specs.Basic.{is_basic}
 use Rattle.headers.specs.Application.{is_input, is_output}
 use Rattle.headers.specs.User.{tracked, value_ok}
-use Rattle.layout.specs.Render.{User, Parts, item_then, user_then, rendered, value_fits, user_fits, PartsOk}
+use Rattle.layout.specs.Render.{User, Parts, item_then, user_then, rendered, ValueFits, UserFits, PartsOk}
 use Rattle.normal_form.proofs.Carried.{laid_content, laid_carried, user_carried}
 
 -- a field that the body of a text has room for
@@ -53,7 +53,7 @@ written_carried (x ∷ xs) n =
     (and_from (carried x.tag.units) _ (digit_carried x.tag.units u.0)
     (letter_carried x.tag.letter (58 ∷ (x.content ++ 13 ∷ 10 ∷ written xs [])) u.1 content))
 
-pub rendered_carried : (p : Parts) → every carried p.basic ≡ true → every carried p.application ≡ true → user_fits p.user → AllByRecursion Neat p.fields → every carried (rendered p) ≡ true
+pub rendered_carried : (p : Parts) → every carried p.basic ≡ true → every carried p.application ≡ true → UserFits p.user → AllByRecursion Neat p.fields → every carried (rendered p) ≡ true
 rendered_carried p b a u n =
     every_append carried p.basic _ b
     (every_append carried p.application _ a
@@ -79,24 +79,24 @@ written_length (x ∷ xs) n =
     )
 
 -- how many bytes the value of an item has room for
-abbrev room : User-item → ℕ
+abbrev room : UserItem → ℕ
 room UserReference = 16
 room ServiceType = 3
 room Priority = 4
 room Tracking = 36
 
-value_length : (k : User-item) (v : List ℕ) → value_ok k v ≡ true → length v ≤ room k
+value_length : (k : UserItem) (v : List ℕ) → value_ok k v ≡ true → length v ≤ room k
 value_length UserReference v h = let b = (and_parts (between 1 16 (length v)) (every printable v) h).0 in grind (arith, nat_tests)
 value_length ServiceType v h = let e = eqb-true (length v) 3 (and_parts (eqb (length v) 3) (every digit v) h).0 in omega arith
 value_length Priority v h = let e = eqb-true (length v) 4 (and_parts (eqb (length v) 4) (every letter_or_digit v) h).0 in omega arith
 value_length Tracking v h = let e = eqb-true (length v) 36 (and_parts (eqb (length v) 36) (tracked 0 v) h).0 in omega arith
 
-item_length : (k : User-item) (opening : List ℕ) (v : Option (List ℕ)) (after : List ℕ) → length opening ≡ 5 → value_fits k v → length (item_then opening v after) ≤ 6 + room k + length after
+item_length : (k : UserItem) (opening : List ℕ) (v : Option (List ℕ)) (after : List ℕ) → length opening ≡ 5 → ValueFits k v → length (item_then opening v after) ≤ 6 + room k + length after
 item_length k opening None after five h = omega arith
 item_length k opening (Some v) after five h = omega (arith, length-append opening (v ++ 125 ∷ after), length-append v (125 ∷ after), value_length k v h)
 
 -- block 3 takes at most 87 bytes
-pub user_length : (u : Option User) (after : List ℕ) → user_fits u → length (user_then u after) ≤ 87 + length after
+pub user_length : (u : Option User) (after : List ℕ) → UserFits u → length (user_then u after) ≤ 87 + length after
 user_length None after h = omega arith
 user_length (Some u) after h =
     let last = 125 ∷ after in

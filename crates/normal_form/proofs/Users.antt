@@ -3,15 +3,15 @@ use Rattle.std.proofs.Common.{◌≡◌, ℕ, List, [], ◌∷◌, map, Some, No
 use Rattle.std.specs.Option.{option_map}
 use Rattle.std.proofs.lemmas.Bool.Decides.{nat_tests}
 use Rattle.layout.specs.Render.{User, capital_of, in_capitals}
-use Rattle.normal_form.specs.Same.{same_users}
+use Rattle.normal_form.specs.Same.{SameUsers}
 
-pub same_capitals : (u v : Option User) → same_users u v → option_map in_capitals u ≡ option_map in_capitals v
+pub same_capitals : (u v : Option User) → SameUsers u v → option_map in_capitals u ≡ option_map in_capitals v
 same_capitals None None h = refl
 same_capitals None (Some v) h = absurd h
 same_capitals (Some u) None h = absurd h
 same_capitals (Some u) (Some v) h = λ i. Some (record { reference = h.reference i; service = h.service i; priority = h.priority i; tracking = h.tracking i })
 
-pub capitals_same : (u v : Option User) → option_map in_capitals u ≡ option_map in_capitals v → same_users u v
+pub capitals_same : (u v : Option User) → option_map in_capitals u ≡ option_map in_capitals v → SameUsers u v
 capitals_same None None e = tt
 capitals_same None (Some v) e = absurd (grind arith)
 capitals_same (Some u) None e = absurd (grind arith)

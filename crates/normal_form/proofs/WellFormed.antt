@@ -13,7 +13,7 @@ use Rattle.fields.specs.Fields.{Found, body_at}
 use Rattle.fields.specs.Written.{ItemOk, shown}
 use Rattle.layout.specs.declared.walk.Layout.{Layout}
 use Rattle.layout.specs.Walk.{laid_out, walked}
-use Rattle.layout.specs.Render.{User, value_fits, user_fits, fields_of, parts_of, PartsOk, WellFormed, capital_of, in_capitals}
+use Rattle.layout.specs.Render.{User, ValueFits, UserFits, fields_of, parts_of, PartsOk, WellFormed, capital_of, in_capitals}
 use Rattle.layout.proofs.Backs.{accepted}
 use Rattle.reader.specs.Meaning.{Meaning, KeepsLaws}
 use Rattle.reader.specs.Rows.{Taken}
@@ -33,7 +33,7 @@ capitals_kept (b ∷ v) h =
     let k = r.0 in
     and_from (letter_or_digit (capital_of b)) (every letter_or_digit (map capital_of v)) (grind (arith, nat_tests)) (capitals_kept v r.1)
 
-capitals_fit : (v : Option (List ℕ)) → value_fits Priority v → value_fits Priority (option_map (map capital_of) v)
+capitals_fit : (v : Option (List ℕ)) → ValueFits Priority v → ValueFits Priority (option_map (map capital_of) v)
 capitals_fit None h = tt
 capitals_fit (Some v) h =
     let r = and_parts (eqb (length v) 4) (every letter_or_digit v) h in
@@ -43,7 +43,7 @@ given_kept : (f : List ℕ → List ℕ) (v : Option (List ℕ)) → is_some v �
 given_kept f (Some v) = refl
 given_kept f None = refl
 
-user_kept : (u : Option User) → user_fits u → user_fits (option_map in_capitals u)
+user_kept : (u : Option User) → UserFits u → UserFits (option_map in_capitals u)
 user_kept None h = tt
 user_kept (Some u) h =
     record {

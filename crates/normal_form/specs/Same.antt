@@ -8,22 +8,22 @@ use Rattle.reader.specs.Rows.{Taken}
 use Rattle.reader.specs.Texts.{Sound}
 
 -- two values without regard to the case of their letters
-abbrev pub same_but_case : Option (List ℕ) → Option (List ℕ) → Type 0
-same_but_case v w = option_map (map capital_of) v ≡ option_map (map capital_of) w
+abbrev pub SameButCase : Option (List ℕ) → Option (List ℕ) → Type 0
+SameButCase v w = option_map (map capital_of) v ≡ option_map (map capital_of) w
 
 -- block 3, tag by tag: 108, 111, 113 and 121
 pub record SameUser (u v : User) : Type 0 where
   pub reference : u.reference ≡ v.reference
   pub service : u.service ≡ v.service
-  pub priority : same_but_case u.priority v.priority
+  pub priority : SameButCase u.priority v.priority
   pub tracking : u.tracking ≡ v.tracking
 
 -- both have a block 3 or neither has
-abbrev pub same_users : Option User → Option User → Type 0
-same_users None None = Unit {0}
-same_users None (Some v) = ⊥
-same_users (Some u) None = ⊥
-same_users (Some u) (Some v) = SameUser u v
+abbrev pub SameUsers : Option User → Option User → Type 0
+SameUsers None None = Unit {0}
+SameUsers None (Some v) = ⊥
+SameUsers (Some u) None = ⊥
+SameUsers (Some u) (Some v) = SameUser u v
 
 -- what the content of a field says, by the format of its row
 abbrev pub content_of : {F : Type 0} → List ℕ → Taken F → List ℕ
@@ -34,16 +34,16 @@ pub record SameField {F : Type 0} (m : Meaning F) (s t : List ℕ) (x y : Taken 
   pub saying : (m.format x.format).says (content_of s x) ≡ (m.format y.format).says (content_of t y)
 
 -- field by field, in order
-abbrev pub same_fields : {F : Type 0} → Meaning F → List ℕ → List ℕ → List (Taken F) → List (Taken F) → Type 0
-same_fields m s t [] [] = Unit {0}
-same_fields m s t [] (y ∷ ys) = ⊥
-same_fields m s t (x ∷ xs) [] = ⊥
-same_fields m s t (x ∷ xs) (y ∷ ys) = SameField m s t x y × same_fields m s t xs ys
+abbrev pub SameFields : {F : Type 0} → Meaning F → List ℕ → List ℕ → List (Taken F) → List (Taken F) → Type 0
+SameFields m s t [] [] = Unit {0}
+SameFields m s t [] (y ∷ ys) = ⊥
+SameFields m s t (x ∷ xs) [] = ⊥
+SameFields m s t (x ∷ xs) (y ∷ ys) = SameField m s t x y × SameFields m s t xs ys
 
 -- blocks 1 and 2 equal, block 3 equal by tag but for the case of 113, tags equal in order, and contents
 -- that say the same; block 5 plays no part
 pub record SaysSame {F : Type 0} (m : Meaning F) (s t : List ℕ) (x y : Sound F) : Type 0 where
   pub basic : (parts_of s x.layout).basic ≡ (parts_of t y.layout).basic
   pub application : (parts_of s x.layout).application ≡ (parts_of t y.layout).application
-  pub user : same_users (parts_of s x.layout).user (parts_of t y.layout).user
-  pub fields : same_fields m s t x.taken y.taken
+  pub user : SameUsers (parts_of s x.layout).user (parts_of t y.layout).user
+  pub fields : SameFields m s t x.taken y.taken

@@ -66,9 +66,9 @@ passing_more false true (here r rs n) = refl
 passing_more false false (here r rs n) = refl
 
 -- what the row that was found makes of the field: its content is accepted, or not
-module _ {F : Type 0} (m : Meaning F) (text : List ℕ) (f : Field) (rows : List (Row F)) (row n : ℕ) (p : Place F) (r : Row F) (here-is : first_of n (drop row rows) ≡ p) (h : row < length rows) (e : r ≡ get_or rows row r) where
+module _ {F : Type 0} (m : Meaning F) (text : List ℕ) (f : Field) (rows : List (Row F)) (row n : ℕ) (p : Place F) (r : Row F) (here_is : first_of n (drop row rows) ≡ p) (h : row < length rows) (e : r ≡ get_or rows row r) where
   spot_is : p ≡ here r (drop (row + 1) rows) n
-  spot_is = sym here-is ∙ ap (first_of n) (row_at rows row r h e)
+  spot_is = sym here_is ∙ ap (first_of n) (row_at rows row r h e)
 
   pub forward_taken : (v : Told) → Some v ≡ value_of (m.format r.format) (shown text f).content → Ok (record { rows = drop row rows; count = n; told = v }) ≡ forward m text f p
   forward_taken v is = by ((m.format r.format).accepts (shown text f).content) refl is ∙ ap (forward m text f) (sym spot_is)

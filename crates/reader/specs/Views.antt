@@ -36,7 +36,7 @@ offset from at = min (from + at) (2 ^ 64 - 1)
 abbrev pub sort_of : ℕ → Option Parts → Sort
 sort_of from None = plain
 sort_of from (Some (code c at)) = bank_code c (offset from at)
-sort_of from (Some (account_and_code a a_at c c-at)) = account_code a (offset from a_at) c (offset from c-at)
+sort_of from (Some (account_and_code a a_at c c_at)) = account_code a (offset from a_at) c (offset from c_at)
 
 abbrev pub viewed : {F : Type 0} → Meaning F → List ℕ → Taken F → View
 viewed m text t =
@@ -56,7 +56,7 @@ view m text i = heed (sound m text) (λ s. Ok (option_map (viewed m text) (slice
 abbrev pub sort_told : Kind → Sort
 sort_told Plain = plain
 sort_told (BankCode c at) = bank_code c.now at
-sort_told (AccountAndCode a a_at c c-at) = account_code a.now a_at c.now c-at
+sort_told (AccountAndCode a a_at c c_at) = account_code a.now a_at c.now c_at
 
 abbrev pub view_told : FieldView → View
 view_told v = record { tag = v.tag; at = v.at; content = v.content.now; content_at = v.content_at; sort = sort_told v.kind }
