@@ -1,7 +1,8 @@
 #!/usr/bin/env python3
 """Brings the names of definitions and lemmas to one spelling: words in snake case, facts and types in camel case.
 
-usage: python3 tools/respell.py [FOLDER]     in FOLDER (or here), after port.py: rewrites crates/, README.md and docs/ in place
+usage: python3 tools/respell.py [FOLDER]     in FOLDER (or here), after port.py: rewrites crates/, README.md and docs/ in place,
+                                             but not docs/PORT.md, which shows the older names beside today's
 
 A name is turned where specs/ or proofs/ of some crate declares it with a hyphen: `real-date` becomes `real_date`,
 `Says-same` becomes `SaysSame`. A definition in small letters that gives a fact, `user-fits : .. → Type 0`, becomes
@@ -55,6 +56,7 @@ def declared(path):
         m = LEFT.match(line)
         if m and not m[2].startswith("goal.") and "=" not in line[: m.end(1)]:
             found.update(m[1].split())
+    facts |= {n for n in found if n[0].isupper() and "_" in n}
     return {n: turned(n) for n in found if "-" in n} | {n: camel(n) for n in facts}
 
 
@@ -100,7 +102,7 @@ def main():
         new = respell(text, names)
         if new != text:
             open(p, "w", encoding="utf-8").write(new)
-    pages = [os.path.join(root, "README.md")] + [os.path.join(root, "docs", d) for d in sorted(os.listdir(os.path.join(root, "docs"))) if d.endswith(".md")]
+    pages = [os.path.join(root, "README.md")] + [os.path.join(root, "docs", d) for d in sorted(os.listdir(os.path.join(root, "docs"))) if d.endswith(".md") and d != "PORT.md"]
     known = set()
     for p in all_files:
         if p.endswith(".antt"):

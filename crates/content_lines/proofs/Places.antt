@@ -37,12 +37,12 @@ pub at_byte : (bs : List ℕ) (i b : ℕ) → get_or bs i 0 ≡ b → 0 < b → 
 at_byte bs i b e h = ⊎_elim (λ l. l) (λ l. absurd (let p = get_or_past bs i 0 l in omega arith)) (cases_lt i (length bs))
 
 -- what a line's end is followed by
-pub record Goes_on (bs : List ℕ) : Type 0 where
+pub record GoesOn (bs : List ℕ) : Type 0 where
   pub before : line_end bs + 2 ≤ length bs
   pub next : begins (next_line bs) ≡ false
   pub split : first_line bs ++ 13 ∷ 10 ∷ next_line bs ≡ bs
 
-pub goes_on_parts : (bs : List ℕ) → goes_on bs ≡ true → Goes_on bs
+pub goes_on_parts : (bs : List ℕ) → goes_on bs ≡ true → GoesOn bs
 goes_on_parts bs h =
     let p = and_parts (eqb (get_or bs (line_end bs + 1) 0) 10) (not (begins (next_line bs))) h in
     let e = eqb-true (get_or bs (line_end bs + 1) 0) 10 p.0 in
