@@ -5,11 +5,14 @@ usage: python3 tools/respell.py [FOLDER]     in FOLDER (or here), after port.py:
                                              but not docs/PORT.md, which shows the older names beside today's
 
 A name is turned where specs/ or proofs/ of some crate declares it with a hyphen: `real-date` becomes `real_date`,
-`Says-same` becomes `SaysSame`. A definition in small letters that gives a fact, `user-fits : .. → Type 0`, becomes
-`UserFits`. Names that the checker makes (of goals, loops and returns) and names of the standard
-library keep their hyphens, since no file here declares them. Functions of src/, strings and test data are left alone.
-Where two declared names would fall together nothing is written; a name that a function or a field of the same file has
-already is printed, since only a reader sees whether the two are kept apart there.
+`Says-same` becomes `SaysSame`. A definition in small letters that gives a fact and is declared in one line,
+`abbrev pub user-fits : .. → Type 0`, becomes `UserFits`. Names that the checker makes (of goals, loops and returns) and
+names of the standard library keep their hyphens, since no file here declares them.
+
+A name is turned wherever it stands as a word, in comments too, but not in a string that ends on its line. In .rt files only
+names with a hyphen are turned, which no function has. Where two turned names would fall together nothing is written; where
+the file has the new name already, as a function's or a field's, that is printed, since only a reader sees whether the two
+are kept apart there. In the pages only words between backticks are turned, and only hyphens.
 """
 import os
 import re
@@ -56,7 +59,7 @@ def declared(path):
         m = LEFT.match(line)
         if m and not m[2].startswith("goal.") and "=" not in line[: m.end(1)]:
             found.update(m[1].split())
-    facts |= {n for n in found if n[0].isupper() and "_" in n}
+    facts |= {n for n in found if n[0].isupper() and "_" in n and not n.isupper()}
     return {n: turned(n) for n in found if "-" in n} | {n: camel(n) for n in facts}
 
 
@@ -98,8 +101,9 @@ def main():
     if clashes:
         print(clashes, "clashes; nothing is written")
         return 1
+    hyphened = {old: new for old, new in names.items() if "-" in old}
     for p, text in texts.items():
-        new = respell(text, names)
+        new = respell(text, names if p.endswith(".antt") else hyphened)
         if new != text:
             open(p, "w", encoding="utf-8").write(new)
     pages = [os.path.join(root, "README.md")] + [os.path.join(root, "docs", d) for d in sorted(os.listdir(os.path.join(root, "docs"))) if d.endswith(".md") and d != "PORT.md"]
