@@ -17,7 +17,7 @@ use Rattle.reader.specs.Texts.{Sound, sound, fields_found, fields_in, values_in,
 use Rattle.normal_form.specs.Normal.{normal_item, normal_parts, normal_text}
 use Rattle.normal_form.specs.Same.{content_of}
 use Rattle.normal_form.specs.Laws.{Settled}
-use Rattle.normal_form.proofs.Sounds.{passed_all, sound_from, taken_fields}
+use Rattle.reader.proofs.Sounds.{passed_all, sound_from, taken_fields}
 use Rattle.normal_form.proofs.WellFormed.{normal_well_formed, normal_short}
 use Rattle.normal_form.proofs.Headed.{same_type}
 use Rattle.normal_form.proofs.Walks.{chosen, formats_of, fields_of, tags_of, AllAccepted, all_accepted, walk_chosen, walk_again}

@@ -9,7 +9,7 @@ use Rattle.reader.specs.Texts.{Sound, sound}
 use Rattle.normal_form.specs.Normal.{normal_item, normal_parts}
 use Rattle.normal_form.specs.Same.{content_of, SameField, SameFields, SaysSame}
 use Rattle.normal_form.specs.Laws.{ToldApart}
-use Rattle.normal_form.proofs.Sounds.{passed_all}
+use Rattle.reader.proofs.Sounds.{passed_all}
 use Rattle.normal_form.proofs.WellFormed.{normal_well_formed}
 use Rattle.normal_form.proofs.Headed.{same_type}
 use Rattle.normal_form.proofs.Walks.{chosen, formats_of, tags_of, AllAccepted, all_accepted, walk_chosen}

@@ -13,7 +13,7 @@ use Rattle.headers.specs.declared.user.Item.{Item as UserItem}
 use Rattle.headers.specs.declared.user.Item.TheVariants.{UserReference, ServiceType, Priority, Tracking}
 use Rattle.headers.specs.User.{small_hex, hyphen_place, tracked, value_ok}
 use Rattle.layout.specs.Render.{User, item_then, user_then, ValueFits, UserFits}
-use Rattle.normal_form.proofs.Sounds.{unrefused}
+use Rattle.reader.proofs.Sounds.{unrefused}
 
 -- ---- the first look at a text
 

@@ -1,4 +1,3 @@
-pub mod Sounds
 pub mod Carried
 pub mod Neat
 pub mod WellFormed

@@ -10,7 +10,7 @@ use Rattle.reader.specs.declared.interface.Row.{Row}
 use Rattle.reader.specs.Meaning.{Meaning}
 use Rattle.reader.specs.Rows.{Place, no_row, short, here, seek, filled, Taken, with_taken, take_in, assigned}
 use Rattle.reader.specs.Texts.{Sound, sound, fields_in}
-use Rattle.normal_form.proofs.Sounds.{passed_all, taken_fields, taken_accepted}
+use Rattle.reader.proofs.Sounds.{passed_all, taken_fields, taken_accepted}
 
 -- the formats that take fields of these tags, in order, from the current row on
 abbrev from_place : {F : Type 0} → Place F → (ℕ → List (Row F) → Option (List F)) → Option (List F)

@@ -19,7 +19,7 @@ use Rattle.reader.specs.Meaning.{Meaning, KeepsLaws}
 use Rattle.reader.specs.Rows.{Taken}
 use Rattle.reader.specs.Texts.{fields_found, fields_in, Sound, sound}
 use Rattle.normal_form.specs.Normal.{normal_item, normal_parts, normal_text}
-use Rattle.normal_form.proofs.Sounds.{heeded, Passed, passed_all, Fits, taken_fields, taken_accepted}
+use Rattle.reader.proofs.Sounds.{heeded, Passed, passed_all, Fits, taken_fields, taken_accepted}
 use Rattle.normal_form.proofs.Carried.{checked_carried, checked_from, every_take, every_drop}
 use Rattle.normal_form.proofs.Neat.{Neat, neat_ok, rendered_carried, Sized, rendered_sized}
 
