@@ -1,5 +1,5 @@
 //! Days: YYMMDD from 1980 to 2079, and MMDD of any year.
-ghost use Rattle.std.specs.Prelude.{◌≡◌};
+ghost use Rattle.std.specs.Prelude.{◌≡◌, is_some};
 ghost use Rattle.contents.specs.Dates.{leap, days_in, real_day, full_year, date_of, month_day_of, before, ComparesAsDays};
 
 use crate::digits::pair_at;
@@ -64,6 +64,13 @@ pub fn read_date(text: &[u8]) -> Option<Date>
     } else {
         None
     }
+}
+
+// Whether YYMMDD names a real day.
+pub fn is_date(text: &[u8]) -> bool
+    ensures { result ≡ is_some (date_of text.now) }
+{
+    read_date(text).is_some()
 }
 
 // The day that MMDD names, if some year has it: 29 February always counts.

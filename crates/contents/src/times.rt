@@ -1,5 +1,5 @@
 //! Times of day, HHMM.
-ghost use Rattle.std.specs.Prelude.{◌≡◌};
+ghost use Rattle.std.specs.Prelude.{◌≡◌, is_some};
 ghost use Rattle.contents.specs.Times.{time_of};
 
 use crate::digits::pair_at;
@@ -25,4 +25,11 @@ pub fn read_time(text: &[u8]) -> Option<Time>
     } else {
         None
     }
+}
+
+// Whether HHMM names a real time.
+pub fn is_time(text: &[u8]) -> bool
+    ensures { result ≡ is_some (time_of text.now) }
+{
+    read_time(text).is_some()
 }
