@@ -1,5 +1,6 @@
 //! Amounts: digits with one comma, worth a number of hundredths.
-ghost use Rattle.std.specs.Prelude.{◌≡◌, ◌-◌, ◌^◌, ◌≤◌, length, take, drop, if◌then◌else◌, Some, None};
+ghost use Rattle.std.specs.Prelude.{◌≡◌, ◌-◌, ◌^◌, ◌≤◌, ◌==◌, length, take, drop, if◌then◌else◌, Some, None};
+ghost use Rattle.std.specs.List.{prefix_len, suffix_len};
 ghost use Rattle.std.specs.Option.{option_map};
 ghost use Rattle.mt_text.specs.Refusals.{told};
 ghost use Rattle.contents.specs.Amounts.{comma_fits, is_amount, comma, without_leading, without_trailing, amount_of, normal_of, normal_answer, normal_written};
@@ -58,16 +59,26 @@ pub fn read_amount(text: &[u8]) -> Option<u64>
     Some(whole * 100 + decimals * unit)
 }
 
+// How many zeros the digits begin with.
+fn zeros_in_front(digits: &[u8]) -> usize
+    ensures { result ≡ prefix_len (λ d. d == 48) digits.now }
+{
+    digits.iter().take_while(|d| **d == b'0').count()
+}
+
+// How many zeros the digits end with.
+fn zeros_at_end(digits: &[u8]) -> usize
+    ensures { result ≡ suffix_len (λ d. d == 48) digits.now }
+{
+    digits.iter().rev().take_while(|d| **d == b'0').count()
+}
+
 // How many zeros the digits begin with, the last digit not counted.
 pub fn leading_zeros(digits: &[u8]) -> usize
     ensures within { result ≤ length digits.now }
     ensures rest { drop result digits.now ≡ without_leading digits.now }
 {
-    let mut zeros = 0;
-    while zeros + 1 < digits.len() && digits[zeros] == b'0' {
-        zeros += 1;
-    }
-    zeros
+    zeros_in_front(digits).min(digits.len().saturating_sub(1))
 }
 
 // How many digits are left without the zeros at the end.
@@ -75,11 +86,7 @@ fn without_zeros(digits: &[u8]) -> usize
     ensures within { result ≤ length digits.now }
     ensures rest { take result digits.now ≡ without_trailing digits.now }
 {
-    let mut len = digits.len();
-    while len > 0 && digits[len - 1] == b'0' {
-        len -= 1;
-    }
-    len
+    digits.len() - zeros_at_end(digits)
 }
 
 // The normal amount, if the text is an amount: the part of it that is no needless zero.

@@ -4,8 +4,8 @@ ghost use Rattle.contents.specs.Dates.{leap, days_in, real_day, full_year, date_
 
 use crate::digits::pair_at;
 
-// A day of the calendar.
-#[derive(Clone, Copy, PartialEq, Eq, Debug)]
+// A day of the calendar. The derived order is the calendar's: by year, then by month, then by day.
+#[derive(Clone, Copy, PartialEq, Eq, PartialOrd, Ord, Debug)]
 pub struct Date {
     pub year: u16,
     pub month: u8,
@@ -59,11 +59,7 @@ pub fn read_date(text: &[u8]) -> Option<Date>
     let year = year_of(pair_at(text, 0)?);
     let month = pair_at(text, 2)?;
     let day = pair_at(text, 4)?;
-    if is_real_day(is_leap(year), month, day) {
-        Some(Date { year, month, day })
-    } else {
-        None
-    }
+    is_real_day(is_leap(year), month, day).then_some(Date { year, month, day })
 }
 
 // Whether YYMMDD names a real day.
@@ -82,24 +78,7 @@ pub fn read_month_day(text: &[u8]) -> Option<MonthDay>
     }
     let month = pair_at(text, 0)?;
     let day = pair_at(text, 2)?;
-    if is_real_day(true, month, day) {
-        Some(MonthDay { month, day })
-    } else {
-        None
-    }
-}
-
-// The order of the calendar: by year, then by month, then by day.
-fn comes_before(a: Date, b: Date) -> bool
-    ensures { result ≡ before a b }
-{
-    if a.year != b.year {
-        return a.year < b.year;
-    }
-    if a.month != b.month {
-        return a.month < b.month;
-    }
-    a.day < b.day
+    is_real_day(true, month, day).then_some(MonthDay { month, day })
 }
 
 impl Date {
@@ -108,6 +87,6 @@ impl Date {
         ensures answer { result ≡ before self other }
         ensures days { ComparesAsDays self other }
     {
-        comes_before(self, other)
+        self < other
     }
 }

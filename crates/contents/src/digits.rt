@@ -42,10 +42,5 @@ pub fn read_number(digits: &[u8]) -> Option<u64>
 pub fn place_of(b: u8, text: &[u8]) -> usize
     ensures { result ≡ place b text.now }
 {
-    for i in 0..text.len() {
-        if text[i] == b {
-            return i;
-        }
-    }
-    text.len()
+    text.iter().position(|c| *c == b).unwrap_or(text.len())
 }

@@ -20,11 +20,8 @@ pub fn read_time(text: &[u8]) -> Option<Time>
     }
     let hour = pair_at(text, 0)?;
     let minute = pair_at(text, 2)?;
-    if hour <= 23 && minute <= 59 {
-        Some(Time { hour, minute })
-    } else {
-        None
-    }
+    let is_real = hour <= 23 && minute <= 59;
+    is_real.then_some(Time { hour, minute })
 }
 
 // Whether HHMM names a real time.

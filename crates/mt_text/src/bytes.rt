@@ -1,5 +1,5 @@
 //! The first look at a text: how long it is, and that it holds no foreign byte.
-ghost use Rattle.std.specs.Prelude.{◌≡◌, slice_index};
+ghost use Rattle.std.specs.Prelude.{◌≡◌, not, slice_index, position};
 ghost use Rattle.mt_text.specs.Classes.{carried};
 ghost use Rattle.mt_text.specs.Refusals.{told};
 ghost use Rattle.mt_text.specs.Bytes.{checked};
@@ -14,7 +14,7 @@ pub const MAX_TEXT: usize = 10_000;
 pub fn byte_at(text: &[u8], at: usize) -> u8
     ensures { result ≡ slice_index text.now at }
 {
-    if at < text.len() { text[at] } else { 0 }
+    text.get(at).copied().unwrap_or(0)
 }
 
 // Whether a text may hold the byte at all: x, CR, LF and the braces.
@@ -24,6 +24,13 @@ fn is_carried(b: u8) -> bool
     is_printable(b) || matches!(b, b'\r' | b'\n' | b'{' | b'}')
 }
 
+// Where the first byte stands that no text may hold.
+fn foreign_at(text: &[u8]) -> Option<usize>
+    ensures { result ≡ position (λ b. not (carried b)) text.now }
+{
+    text.iter().position(|b| !is_carried(*b))
+}
+
 // Refuses a text that is empty or too long (cause 1), else at its first foreign byte (cause 2).
 pub fn check_bytes(text: &[u8]) -> Result<(), Fault>
     ensures { told result ≡ checked text.now }
@@ -31,10 +38,8 @@ pub fn check_bytes(text: &[u8]) -> Result<(), Fault>
     if text.is_empty() || text.len() > MAX_TEXT {
         return Err(Fault::Length { at: 0 });
     }
-    for i in 0..text.len() {
-        if !is_carried(text[i]) {
-            return Err(Fault::Byte { at: i });
-        }
+    match foreign_at(text) {
+        Some(at) => Err(Fault::Byte { at }),
+        None => Ok(()),
     }
-    Ok(())
 }

@@ -79,10 +79,5 @@ impl Class {
 pub fn all_of(class: Class, bytes: &[u8]) -> bool
     ensures { result ≡ every (holds class) bytes.now }
 {
-    for b in bytes {
-        if !class.has(*b) {
-            return false;
-        }
-    }
-    true
+    bytes.iter().all(|b| class.has(*b))
 }

@@ -2,6 +2,9 @@
 ghost use Rattle.std.specs.Prelude.{◌≡◌};
 ghost use Rattle.mt_text.specs.Refusals.{refusal_of, number_of, offset_of};
 
+use std::error::Error;
+use std::fmt;
+
 // Why a call refuses. Causes 1 to 10 are faults of the text and tell at which byte they stand;
 // 11 to 15 are the caller's, 16 to 21 come from what the account has filed before.
 #[derive(Clone, Copy, PartialEq, Eq, Debug)]
@@ -51,7 +54,7 @@ pub enum Fault {
 }
 
 impl Fault {
-    // The number of the cause, 1 to 21.
+    // The number of the cause, 1 to 21. `fault.number()` says which number, `u8::from(fault)` would not.
     pub fn number(self) -> u8
         ensures { result ≡ number_of (refusal_of self) }
     {
@@ -99,3 +102,16 @@ impl Fault {
         }
     }
 }
+
+// As the programs print a refusal: `refused 3 at 29`, or `refused 14` where the cause has no offset.
+impl fmt::Display for Fault {
+    fn fmt<W: fmt::Write>(&self, f: &mut fmt::Formatter<W>) -> fmt::Result {
+        let number = self.number();
+        match self.offset() {
+            Some(at) => write!(f, "refused {number} at {at}"),
+            None => write!(f, "refused {number}"),
+        }
+    }
+}
+
+impl Error for Fault {}

@@ -1,12 +1,11 @@
-use Rattle.std.proofs.Common.{rules}
-use Rattle.mt_text.proofs.Steps.{every_more, every_all}
+use Rattle.std.proofs.Common.{sym, ◌∙◌, rules, tests}
+use Rattle.std.proofs.lemmas.Iterator.{YieldsList-from_slice}
+use Rattle.std.proofs.lemmas.Iterator.Search.{all_from_yields_List}
+use Rattle.mt_text.specs.Classes.{holds}
+use Rattle.mt_text.proofs.Steps.{every_is_all}
 use Rattle.mt_text.proofs.classes.all_of.Goals as goal
 
-pub returns-then-not-has : goal.returns-then-not-has
-returns-then-not-has c = search (rules, every_more)
-
-pub loop-b-preserved : goal.loop-b-preserved
-loop-b-preserved c = search (rules, every_more)
-
 pub returns : goal.returns
-returns c = search (rules, every_all)
+returns c =
+    let all = all_from_yields_List (holds c.args.class) _ _ c.all.result c.all.ensures.ran (YieldsList-from_slice c.args.bytes.now cc) (λ x b q k. search (rules, tests)) in
+    all ∙ sym (every_is_all (holds c.args.class) c.args.bytes.now)
