@@ -4,8 +4,8 @@
 #[cfg(test)]
 mod tests {
     use contents::{
-        Date, MonthDay, Time, normal_amount, read_amount, read_date, read_month_day, read_number,
-        read_time, write_normal_amount,
+        Date, MonthDay, Time, is_date, is_time, normal_amount, read_amount, read_date,
+        read_month_day, read_number, read_time, write_normal_amount,
     };
     use mt_text::Fault;
 
@@ -43,6 +43,12 @@ mod tests {
         assert_eq!(rt; read_date(b"26010"), None);
         assert_eq!(rt; read_date(b"2601055"), None);
         assert_eq!(rt; read_date(b"20260105"), None);
+    }
+
+    #[test]
+    fn dates_and_times_are_told(rt: HostRuntime) {
+        assert!(rt; is_date(b"240229") && !is_date(b"260229") && !is_date(b"26022"));
+        assert!(rt; is_time(b"2359") && !is_time(b"2400") && !is_time(b""));
     }
 
     // Whether both are days, and the first comes before the second.

@@ -7,16 +7,11 @@ mod tests {
         Class, Fault, MAX_TEXT, all_of, check_bytes, is_alphanumeric, is_capital, is_digit, is_hex,
         is_printable, put_front,
     };
+    use std::test::Fail;
 
     // How many of the 256 bytes a class has.
     fn size_of_class(class: Class) -> usize {
-        let mut size: usize = 0;
-        for b in 0..=255u8 {
-            if class.has(b) {
-                size = size.saturating_add(1);
-            }
-        }
-        size
+        (0..=255u8).filter(|b| class.has(*b)).count()
     }
 
     #[test]
@@ -75,12 +70,10 @@ mod tests {
             Fault::NumberGap,
             Fault::OpeningDiffers,
         ];
-        let mut number = 0u8;
-        for fault in faults {
-            number = number.saturating_add(1);
+        assert_eq!(rt; faults.len(), 21);
+        for (fault, number) in faults.iter().zip(1..=21u8) {
             assert_eq!(rt; fault.number(), number);
         }
-        assert_eq!(rt; number, 21);
     }
 
     #[test]
@@ -91,6 +84,21 @@ mod tests {
         assert_eq!(rt; Fault::NoAccount.offset(), None);
         assert_eq!(rt; Fault::ShortBuffer.offset(), None);
         assert_eq!(rt; Fault::OpeningDiffers.offset(), None);
+    }
+
+    #[test]
+    fn faults_are_printed_with_number_and_offset(rt: HostRuntime) -> Result<(), Fail> {
+        let alloc = rt.alloc();
+        let block = Fault::Block { at: 29 };
+        let closing = Fault::Balance { at: 9_999 };
+        let buffer = Fault::ShortBuffer;
+        assert_eq!(rt; format!(in alloc; "{block}")?.as_str(), "refused 3 at 29");
+        assert_eq!(rt;
+            format!(in alloc; "{closing}")?.as_str(),
+            "refused 10 at 9999"
+        );
+        assert_eq!(rt; format!(in alloc; "{buffer}")?.as_str(), "refused 14");
+        Ok(())
     }
 
     #[test]
