@@ -1,5 +1,5 @@
 -- The fields of a text that is laid out, one field further.
-use Rattle.std.proofs.Common.{◌≡◌, ℕ, zero, suc, ◌+◌, ◌-◌, ◌^◌, ◌<◌, ◌≤◌, min, false, leb, List, [], ◌∷◌, length, drop, Some, None, Ok, Err, Result, sym, refl, ap, ◌∙◌, subst, arith}
+use Rattle.std.proofs.Common.{◌≡◌, ℕ, zero, suc, ◌+◌, ◌-◌, ◌^◌, ◌<◌, ◌≤◌, min, true, false, leb, List, [], ◌∷◌, length, drop, is_ok, Some, None, Ok, Err, Result, sym, refl, ap, ◌∙◌, subst, arith}
 use Rattle.std.specs.List.{slice_get}
 use Rattle.std.proofs.lemmas.Option.{slice_get-get_or}
 use Rattle.std.proofs.lemmas.Bool.{cond-false}
@@ -11,91 +11,74 @@ use Rattle.fields.specs.declared.scan.Body.{Body}
 use Rattle.fields.specs.declared.scan.Next.{Next}
 use Rattle.fields.specs.declared.scan.Next.TheVariants.{More, End}
 use Rattle.fields.specs.Fields.{Found, next_at, behind, with_field, step_then, body_within, body_at, sized}
+use Rattle.fields.proofs.Bodies.{field_within}
 use Rattle.layout.specs.declared.walk.Layout.{Layout}
 use Rattle.layout.specs.Walk.{heed, application_at, opening_at, body_start, end_at, made_of, walked, laid_out}
-use Rattle.fields.proofs.Bodies.{field_within}
 use Rattle.reader.specs.Texts.{fields_found, fields_in, few_enough, spot}
-use Rattle.reader.specs.Steps.{more_of}
 use Rattle.reader.proofs.Sounds.{heeded}
 
--- from here on these fields are left, and then the closing hyphen
-pub record Left (text : List ℕ) (from : ℕ) (fs : List Field) (hyphen : ℕ) : Type 0 where
-  pub fuel : ℕ
-  pub body : body_within fuel text from ≡ Ok (record { fields = fs; hyphen = hyphen })
-
-module _ (text : List ℕ) (from : ℕ) (fs : List Field) (hyphen : ℕ) where
-  abbrev found : Found
-  found = record { fields = fs; hyphen = hyphen }
-
-  -- what the next line gives decides
-  stepped : Left text from fs hyphen → (n : Result Next Refusal) → n ≡ next_at from (drop from text) → (k : ℕ) × (step_then (λ j. body_within k text j) n ≡ Ok found)
-  stepped l n is = by l.fuel l.body
-    where
-      by : (k : ℕ) → body_within k text from ≡ Ok found → (k : ℕ) × (step_then (λ j. body_within k text j) n ≡ Ok found)
-      by zero h = absurd (grind arith)
-      by (suc k) h = (k, ap (step_then (λ j. body_within k text j)) is ∙ h)
-
-  pub left_more : (f : Field) → Left text from fs hyphen → Ok (More f) ≡ next_at from (drop from text) → (gs : List Field) × (fs ≡ f ∷ gs) × Left text (behind f) gs hyphen
-  left_more f l is = let s = stepped l (Ok (More f)) is in by s.0 (body_within s.0 text (behind f)) refl s.1
-    where
-      by : (k : ℕ) (r : Result Found Refusal) → body_within k text (behind f) ≡ r → with_field f r ≡ Ok found → (gs : List Field) × (fs ≡ f ∷ gs) × Left text (behind f) gs hyphen
-      by k (Err x) q h = absurd (grind arith)
-      by k (Ok b) q h =
-          let same : record { fields = f ∷ b.fields; hyphen = b.hyphen } ≡ found = cc in
-          (b.fields, sym (ap (λ d. d.fields) same), record { fuel = k; body = q ∙ (λ i. Ok (record { fields = b.fields; hyphen = (same i).hyphen })) })
-
-  pub left_end : (e : ℕ) → Left text from fs hyphen → Ok (End e) ≡ next_at from (drop from text) → (fs ≡ []) × (hyphen ≡ e)
-  left_end e l is =
-      let s = stepped l (Ok (End e)) is in
-      let h = s.1 in
-      let same : record { fields = []; hyphen = e } ≡ found = cc in
-      (sym (ap (λ d. d.fields) same), sym (ap (λ d. d.hyphen) same))
-
-  pub left_fault : (x : Refusal) → Left text from fs hyphen → Err x ≡ next_at from (drop from text) → ⊥
-  left_fault x l is = let s = stepped l (Err x) is in let h = s.1 in absurd (grind arith)
-
--- what begins a field is the next of those that are left, and where none begins, none is left
-more_is : (f : Field) (n : Result Next Refusal) → Some f ≡ more_of n → Ok (More f) ≡ n
-more_is f (Ok (More h)) e = let same : f ≡ h = cc in ap (λ k. Ok (More k)) same
-more_is f (Ok (End h)) e = absurd (grind arith)
-more_is f (Err x) e = absurd (grind arith)
-
-pub next_is : (text : List ℕ) (from : ℕ) (f : Field) → Some f ≡ more_of (next_at from (drop from text)) → Ok (More f) ≡ next_at from (drop from text)
-next_is text from f e = more_is f (next_at from (drop from text)) e
-
-pub left_none : (text : List ℕ) (from : ℕ) (fs : List Field) (hyphen : ℕ) → Left text from fs hyphen → None ≡ more_of (next_at from (drop from text)) → fs ≡ []
-left_none text from fs hyphen l e = by (next_at from (drop from text)) refl e
+-- a field takes some bytes, so those behind it are found as well by as many steps as the text has bytes
+found_longer : (k : ℕ) (text : List ℕ) (i : ℕ) (b : Found) → body_within k text i ≡ Ok b → body_within (suc k) text i ≡ Ok b
+found_longer zero text i b h = absurd (grind arith)
+found_longer (suc k) text i b h = by (λ f d q. found_longer k text (behind f) d q) (next_at i (drop i text)) h
   where
-    by : (n : Result Next Refusal) → n ≡ next_at from (drop from text) → None ≡ more_of n → fs ≡ []
-    by (Ok (More f)) q p = absurd (grind arith)
-    by (Ok (End h)) q p = (left_end text from fs hyphen h l q).0
-    by (Err x) q p = absurd (left_fault text from fs hyphen x l q)
+    Shorter : Type 0
+    Shorter = (f : Field) (d : Found) → body_within k text (behind f) ≡ Ok d → body_within (suc k) text (behind f) ≡ Ok d
 
--- the offset behind a field: further on, and in the text
-pub record Onward (text : List ℕ) (from : ℕ) (f : Field) (r : ℕ) : Type 0 where
-  pub is : r ≡ behind f
-  pub further : from < r
-  pub within : r ≤ length text
+    on : Shorter → (f : Field) (r : Result Found Refusal) → body_within k text (behind f) ≡ r → with_field f r ≡ Ok b → with_field f (body_within (suc k) text (behind f)) ≡ Ok b
+    on ih f (Ok d) q e = ap (with_field f) (ih f d q) ∙ e
+    on ih f (Err x) q e = absurd (grind arith)
 
-pub onward : (text : List ℕ) (from : ℕ) (f : Field) (r : ℕ) → length text < 2 ^ 64 → Some f ≡ more_of (next_at from (drop from text)) → r ≡ min (behind f) (2 ^ 64 - 1) → Onward text from f r
-onward text from f r fits e b =
-    let w = field_within text from f (next_is text from f e) in
-    let same : r ≡ behind f = omega (arith, w) in
-    record { is = same; further = omega (arith, w); within = omega (arith, w) }
+    by : Shorter → (n : Result Next Refusal) → step_then (λ j. body_within k text j) n ≡ Ok b → step_then (λ j. body_within (suc k) text j) n ≡ Ok b
+    by ih (Ok (More f)) e = on ih f (body_within k text (behind f)) refl e
+    by ih (Ok (End h)) e = e
+    by ih (Err x) e = e
+
+-- the fields from an offset on, where all is as it must be
+abbrev pub fields_from : List ℕ → ℕ → List Field
+fields_from text i = fields_found (body_at text i)
+
+-- one field more was found
+pub record OneMore (text : List ℕ) (i : ℕ) (f : Field) : Type 0 where
+  pub whole : is_ok (body_at text (behind f)) ≡ true
+  pub is : fields_from text i ≡ f ∷ fields_from text (behind f)
+
+module _ (text : List ℕ) (i : ℕ) (whole : is_ok (body_at text i) ≡ true) where
+  pub one_more : (f : Field) → Ok (More f) ≡ next_at i (drop i text) → OneMore text i f
+  one_more f is = by (body_within (length text) text (behind f)) refl (ap (λ r. is_ok (step_then (λ j. body_within (length text) text j) r)) is ∙ whole)
+    where
+      at_next : fields_from text i ≡ fields_found (with_field f (body_within (length text) text (behind f)))
+      at_next = ap (λ r. fields_found (step_then (λ j. body_within (length text) text j) r)) (sym is)
+
+      by : (r : Result Found Refusal) → body_within (length text) text (behind f) ≡ r → is_ok (with_field f r) ≡ true → OneMore text i f
+      by (Err x) q h = absurd (grind arith)
+      by (Ok b) q h =
+          let longer = found_longer (length text) text (behind f) b q in
+          record { whole = ap is_ok longer; is = at_next ∙ ap (λ r. fields_found (with_field f r)) q ∙ ap (λ r. f ∷ fields_found r) (sym longer) }
+
+  pub no_more : (n : Result Next Refusal) → n ≡ next_at i (drop i text) → ((f : Field) → n ≡ Ok (More f) → ⊥) → fields_from text i ≡ []
+  no_more n is none = by n refl is
+    where
+      by : (m : Result Next Refusal) → n ≡ m → m ≡ next_at i (drop i text) → fields_from text i ≡ []
+      by (Ok (More f)) q e = absurd (none f q)
+      by (Ok (End h)) q e = ap (λ r. fields_found (step_then (λ j. body_within (length text) text j) r)) (sym e)
+      by (Err x) q e = ap (λ r. fields_found (step_then (λ j. body_within (length text) text j) r)) (sym e)
+
+-- the line behind a field begins in the text, where it is said to begin
+pub behind_is : (text : List ℕ) (from : ℕ) (f : Field) (r : ℕ) → length text < 2 ^ 64 → Ok (More f) ≡ next_at from (drop from text) → r ≡ min (behind f) (2 ^ 64 - 1) → r ≡ behind f
+behind_is text from f r fits e b = omega (arith, field_within text from f e)
 
 -- at the first line all fields are left, as many as were counted
 pub record AllLeft (text : List ℕ) (l : Layout) : Type 0 where
-  pub left : Left text l.body (fields_in text l) l.hyphen
+  pub whole : is_ok (body_at text l.body) ≡ true
   pub counted : l.fields ≡ length (fields_in text l)
 
-sized_left : (text : List ℕ) (s : ℕ) (b : Body) → sized (body_at text s) ≡ Ok b → Left text s (fields_found (body_at text s)) b.hyphen × (b.fields ≡ length (fields_found (body_at text s)))
-sized_left text s b h = by (body_at text s) refl h
+sized_left : (text : List ℕ) (s : ℕ) (b : Body) → sized (body_at text s) ≡ Ok b → (is_ok (body_at text s) ≡ true) × (b.fields ≡ length (fields_found (body_at text s)))
+sized_left text s b h = by (body_at text s) h
   where
-    by : (r : Result Found Refusal) → body_at text s ≡ r → sized r ≡ Ok b → Left text s (fields_found r) b.hyphen × (b.fields ≡ length (fields_found r))
-    by (Err x) q p = absurd (grind arith)
-    by (Ok f) q p =
-        let same : record { fields = length f.fields; hyphen = f.hyphen } ≡ b = cc in
-        (record { fuel = suc (length text); body = q ∙ (λ i. Ok (record { fields = f.fields; hyphen = (same i).hyphen })) }, sym (ap (λ d. d.fields) same))
+    by : (r : Result Found Refusal) → sized r ≡ Ok b → (is_ok r ≡ true) × (b.fields ≡ length (fields_found r))
+    by (Err x) p = absurd (grind arith)
+    by (Ok f) p = let same : record { fields = length f.fields; hyphen = f.hyphen } ≡ b = cc in (refl, sym (ap (λ d. d.fields) same))
 
 pub all_left : (text : List ℕ) (l : Layout) → laid_out text ≡ Ok l → AllLeft text l
 all_left text l h =
@@ -108,28 +91,7 @@ all_left text l h =
     let f = e.2 in
     let same : made_of a.0 o.0 s.0 b.0 ≡ l = cc in
     let z = sized_left text s.0 b.0 b.1 in
-    subst (AllLeft text) same (record { left = z.0; counted = z.1 })
-
--- the field at a place is the one at this place of those that are left
-pub record Sought (text : List ℕ) (start index from place : ℕ) : Type 0 where
-  pub fs : List Field
-  pub hyphen : ℕ
-  pub left : Left text from fs hyphen
-  pub same : slice_get fs place ≡ slice_get (fields_found (body_at text start)) index
-
-module _ (text : List ℕ) (start index from place : ℕ) (s : Sought text start index from place) where
-  pub sought_here : (f : Field) → Some f ≡ more_of (next_at from (drop from text)) → place ≡ 0 → Some f ≡ slice_get (fields_found (body_at text start)) index
-  sought_here f e z =
-      let m = left_more text from s.fs s.hyphen f s.left (next_is text from f e) in
-      sym (ap (slice_get s.fs) z ∙ ap (λ l. slice_get l 0) m.1) ∙ s.same
-
-  pub sought_on : (f : Field) → Some f ≡ more_of (next_at from (drop from text)) → (k : ℕ) → place ≡ suc k → Sought text start index (behind f) k
-  sought_on f e k z =
-      let m = left_more text from s.fs s.hyphen f s.left (next_is text from f e) in
-      record { fs = m.0; hyphen = s.hyphen; left = m.2; same = sym (ap (slice_get s.fs) z ∙ ap (λ l. slice_get l (suc k)) m.1) ∙ s.same }
-
-  pub sought_none : None ≡ more_of (next_at from (drop from text)) → None ≡ slice_get (fields_found (body_at text start)) index
-  sought_none e = sym (ap (λ l. slice_get l place) (left_none text from s.fs s.hyphen s.left e)) ∙ s.same
+    subst (AllLeft text) same (record { whole = z.0; counted = z.1 })
 
 -- ---- how many fields there are
 

@@ -1,22 +1,20 @@
 -- What the fields so far and the fields that are left tell together.
-use Rattle.std.proofs.Common.{◌≡◌, ℕ, ◌+◌, ◌*◌, ◌^◌, ◌≤◌, Bool, true, false, cond, List, [], ◌∷◌, length, drop, ℤ, pos, ◌+ℤ◌, neg_ℤ, ◌≤ℤ◌, is_some, Some, None, Ok, Err, Option, Result, sym, refl, ap, ◌∙◌, subst, arith, w64, SFits}
+use Rattle.std.proofs.Common.{◌≡◌, ℕ, ◌+◌, ◌*◌, ◌^◌, ◌≤◌, Bool, true, false, cond, List, [], ◌∷◌, length, ℤ, pos, ◌+ℤ◌, neg_ℤ, ◌≤ℤ◌, is_some, unwrap_or, IfSome, Some, None, Ok, Err, Option, Result, sym, refl, ap, ◌∙◌, subst, arith, w64, SFits}
 use Rattle.std.specs.Option.{option_or}
 use Rattle.std.proofs.lemmas.Int.{ints}
 use Rattle.std.proofs.lemmas.Bool.{cond-true, cond-false}
 use Rattle.mt_text.specs.Refusals.{Refusal, refused_at}
 use Rattle.content_money.specs.declared.balances.Balance.{Balance}
 use Rattle.fields.specs.declared.scan.Field.{Field}
-use Rattle.fields.specs.Fields.{next_at, body_at, behind}
 use Rattle.fields.specs.Written.{shown}
-use Rattle.layout.specs.declared.walk.Layout.{Layout}
-use Rattle.layout.specs.Walk.{heed, laid_out}
+use Rattle.layout.specs.Walk.{heed}
 use Rattle.reader.specs.declared.interface.Row.{Row}
 use Rattle.reader.specs.Values.{Told, untold, joined}
 use Rattle.reader.specs.Meaning.{Meaning, IfTold, Bounded, BalanceOk, ToldOk, KeepsLaws}
 use Rattle.reader.specs.Rows.{Place, no_row, short, here, seek, filled, Taken, with_taken, take_in, assigned}
-use Rattle.reader.specs.Texts.{fields_found, fields_in, told_in, values_in, closing_at, Sum, sum_of}
-use Rattle.reader.specs.Steps.{more_of, Forward, forward, AddsUp}
-use Rattle.reader.proofs.FieldSteps.{Left, all_left, left_more, left_none, next_is}
+use Rattle.reader.specs.Texts.{told_in, values_in, closing_at, Sum, sum_of}
+use Rattle.reader.specs.Sums.{AddsUp}
+use Rattle.reader.specs.Steps.{Forward, forward}
 
 -- ---- values, joined one after the other
 
@@ -144,104 +142,116 @@ module _ {F : Type 0} (m : Meaning F) (text : List ℕ) (h n : ℕ) (rs : List (
 
 -- ---- the sum, on from values that were gathered
 
-abbrev pub sum_on : {F : Type 0} → Meaning F → List ℕ → Told → ℕ → List (Taken F) → Sum
-sum_on m text v at ts = record { values = joined v (values_in m text ts); closing_at = cond (is_some v.closing) at (closing_at m text ts) }
+abbrev pub sum_on : {F : Type 0} → Meaning F → List ℕ → Told → Option ℕ → List (Taken F) → Sum
+sum_on m text v at ts = record { values = joined v (values_in m text ts); closing_at = unwrap_or at (closing_at m text ts) }
 
-closing_on : {X : Type 0} (a b : Option X) (at f rest : ℕ) → cond (is_some a) at (cond (is_some b) f rest) ≡ cond (is_some (option_or a b)) (cond (is_some a) at f) rest
-closing_on (Some x) b at f rest = refl
-closing_on None (Some y) at f rest = refl
-closing_on None None at f rest = refl
+-- where a field stands, if it tells a closing
+abbrev pub place_of : Bool → ℕ → Option ℕ
+place_of b at = cond b (Some at) None
+
+place_first : (a : Option ℕ) (b : Bool) (at rest : ℕ) → unwrap_or a (cond b at rest) ≡ unwrap_or (option_or a (place_of b at)) rest
+place_first (Some x) b at rest = refl
+place_first None true at rest = refl
+place_first None false at rest = refl
 
 module _ {F : Type 0} (m : Meaning F) (text : List ℕ) where
-  pub sum_start : (ts : List (Taken F)) → sum_on m text untold 0 ts ≡ sum_of m text ts
+  pub sum_start : (ts : List (Taken F)) → sum_on m text untold None ts ≡ sum_of m text ts
   sum_start ts = λ i. record { values = joined_none (values_in m text ts) i; closing_at = closing_at m text ts }
 
-  pub sum_more : (v : Told) (at : ℕ) (t : Taken F) (ts : List (Taken F)) → sum_on m text v at (t ∷ ts) ≡ sum_on m text (joined v (told_in m text t)) (cond (is_some v.closing) at t.field.at) ts
+  pub sum_more : (v : Told) (at : Option ℕ) (t : Taken F) (ts : List (Taken F)) → sum_on m text v at (t ∷ ts) ≡ sum_on m text (joined v (told_in m text t)) (option_or at (place_of (is_some (told_in m text t).closing) t.field.at)) ts
   sum_more v at t ts =
       λ i. record {
         values = joined_assoc v (told_in m text t) (values_in m text ts) i;
-        closing_at = closing_on v.closing (told_in m text t).closing at t.field.at (closing_at m text ts) i;
+        closing_at = place_first at (is_some (told_in m text t).closing) t.field.at (closing_at m text ts) i;
       }
 
--- the values so far and the fields that are left make up the whole
-pub record Midway {F : Type 0} (m : Meaning F) (text : List ℕ) (rows : List (Row F)) (hyphen start from row count : ℕ) (v : Told) (at : ℕ) : Type 0 where
-  pub fs : List Field
-  pub left : Left text from fs hyphen
+-- the values so far, and the fields that are left, which make up the whole with the rows from the current one on
+pub record Midway {F : Type 0} (m : Meaning F) (text : List ℕ) (hyphen : ℕ) (whole : Result Sum Refusal) (fs : List Field) (rows : List (Row F)) (count : ℕ) (v : Told) (at : Option ℕ) : Type 0 where
   pub done : ℕ
   pub few : done + length fs ≤ 43
   pub lines : Few done v.lines
   pub opening : IfTold BalanceOk v.opening
-  pub whole : heed (assigned m text hyphen count (drop row rows) fs) (λ ts. Ok (sum_on m text v at ts)) ≡ heed (assigned m text hyphen 0 rows (fields_found (body_at text start))) (λ ts. Ok (sum_of m text ts))
+  pub closes : is_some at ≡ is_some v.closing
+  pub is : heed (assigned m text hyphen count rows fs) (λ ts. Ok (sum_on m text v at ts)) ≡ whole
+
+-- the same fields, said otherwise
+pub with_fields : {F : Type 0} {m : Meaning F} {text : List ℕ} {hyphen : ℕ} {whole : Result Sum Refusal} {fs : List Field} {rows : List (Row F)} {count : ℕ} {v : Told} {at : Option ℕ} (gs : List Field) → fs ≡ gs → Midway m text hyphen whole fs rows count v at → Midway m text hyphen whole gs rows count v at
+with_fields {m = m} {text = text} {hyphen = hyphen} {whole = whole} {rows = rows} {count = count} {v = v} {at = at} gs e mid = subst (λ hs. Midway m text hyphen whole hs rows count v at) e mid
+
+-- and the same values
+pub with_values : {F : Type 0} {m : Meaning F} {text : List ℕ} {hyphen : ℕ} {whole : Result Sum Refusal} {fs : List Field} {rows : List (Row F)} {count : ℕ} {v : Told} {at : Option ℕ} (w : Told) (bt : Option ℕ) → v ≡ w → at ≡ bt → Midway m text hyphen whole fs rows count v at → Midway m text hyphen whole fs rows count w bt
+with_values {m = m} {text = text} {hyphen = hyphen} {whole = whole} {fs = fs} {rows = rows} {count = count} {v = v} w bt e d mid =
+    subst (λ u. Midway m text hyphen whole fs rows count u bt) e (subst (λ k. Midway m text hyphen whole fs rows count v k) d mid)
+
+-- all that the fields tell, with all rows free
+abbrev pub all_told : {F : Type 0} → Meaning F → List ℕ → ℕ → List (Row F) → List Field → Result Sum Refusal
+all_told m text hyphen rows fs = heed (assigned m text hyphen 0 rows fs) (λ ts. Ok (sum_of m text ts))
 
 -- nothing is gathered yet
-pub midway_start : {F : Type 0} (m : Meaning F) (text : List ℕ) (rows : List (Row F)) (l : Layout) (v : Told) → laid_out text ≡ Ok l → length (fields_in text l) ≤ 43 → v ≡ untold → Midway m text rows l.hyphen l.body l.body 0 0 v 0
-midway_start {F = F} m text rows l v h few e =
+pub midway_start : {F : Type 0} (m : Meaning F) (text : List ℕ) (hyphen : ℕ) (rows : List (Row F)) (fs : List Field) → length fs ≤ 43 → Midway m text hyphen (all_told m text hyphen rows fs) fs rows 0 untold None
+midway_start {F = F} m text hyphen rows fs few =
     record {
-      fs = fields_in text l;
-      left = (all_left text l h).left;
       done = 0;
       few = omega arith;
-      lines = subst (Few 0) (sym (ap (λ v. v.lines) e)) (record { low = omega (arith, ints); high = omega (arith, ints) });
-      opening = subst (λ o. IfTold BalanceOk o) (sym (ap (λ v. v.opening) e)) tt;
-      whole = ap (λ v. heed (assigned m text l.hyphen 0 rows (fields_in text l)) (λ ts. Ok (sum_on m text v 0 ts))) e ∙ by (assigned m text l.hyphen 0 rows (fields_in text l));
+      lines = record { low = omega (arith, ints); high = omega (arith, ints) };
+      opening = tt;
+      closes = refl;
+      is = by (assigned m text hyphen 0 rows fs);
     }
   where
-    by : (r : Result (List (Taken F)) Refusal) → heed r (λ ts. Ok (sum_on m text untold 0 ts)) ≡ heed r (λ ts. Ok (sum_of m text ts))
+    by : (r : Result (List (Taken F)) Refusal) → heed r (λ ts. Ok (sum_on m text untold None ts)) ≡ heed r (λ ts. Ok (sum_of m text ts))
     by (Ok ts) = ap Ok (sum_start m text ts)
     by (Err x) = refl
 
-module _ {F : Type 0} (m : Meaning F) (text : List ℕ) (rows : List (Row F)) (hyphen start from row count : ℕ) (v : Told) (at : ℕ) (mid : Midway m text rows hyphen start from row count v at) where
+closes_more : {X : Type 0} (o : Option ℕ) (c : Option X) (b : Option X) (at : ℕ) → is_some o ≡ is_some c → is_some (option_or o (place_of (is_some b) at)) ≡ is_some (option_or c b)
+closes_more None None None at h = refl
+closes_more None None (Some x) at h = refl
+closes_more None (Some c) b at h = absurd (grind arith)
+closes_more (Some o) None b at h = absurd (grind arith)
+closes_more (Some o) (Some c) b at h = refl
+
+module _ {F : Type 0} (m : Meaning F) (text : List ℕ) (hyphen : ℕ) (whole : Result Sum Refusal) (f : Field) (fs : List Field) (rows : List (Row F)) (count : ℕ) (v : Told) (at : Option ℕ) (mid : Midway m text hyphen whole (f ∷ fs) rows count v at) where
+  -- what one field more tells is small
+  pub small_more : KeepsLaws m → (s : Forward F) → Ok s ≡ forward m text f (seek f.tag count rows) → ToldOk s.told
+  small_more laws s q = let t = forwarded m text hyphen count rows f s q in subst ToldOk t.tells (laws.values t.format (shown text f).content t.accepted)
+
   -- one field more is taken
-  pub midway_more : KeepsLaws m → (f : Field) → Some f ≡ more_of (next_at from (drop from text)) → (s : Forward F) → Ok s ≡ forward m text f (seek f.tag count (drop row rows)) → Bounded s.told.lines × ((row' : ℕ) → s.rows ≡ drop row' rows → Midway m text rows hyphen start (behind f) row' s.count (joined v s.told) (cond (is_some v.closing) at f.at))
-  midway_more laws f e s q =
-      let n = left_more text from mid.fs hyphen f mid.left (next_is text from f e) in
-      let t = forwarded m text hyphen count (drop row rows) f s q in
-      let ok = subst ToldOk t.tells (laws.values t.format (shown text f).content t.accepted) in
-      let small = ok.lines in
-      let taken : Taken F = record { format = t.format; field = f } in (
-        small,
-        λ row' is.
-            record {
-              fs = n.0;
-              left = n.2;
-              done = mid.done + 1;
-              few = omega (arith, mid.few, ap length n.1);
-              lines = few_more mid.done v.lines s.told.lines mid.lines small;
-              opening = told_first BalanceOk v.opening s.told.opening mid.opening ok.opening;
-              whole =
-                  on n.0 taken t.tells (assigned m text hyphen s.count (drop row' rows) n.0)
-                  ∙ ap (λ qs. heed (with_taken taken (assigned m text hyphen s.count qs n.0)) (λ ts. Ok (sum_on m text v at ts))) (sym is)
-                  ∙ ap (λ r. heed r (λ ts. Ok (sum_on m text v at ts))) (sym (t.goes_on n.0))
-                  ∙ ap (λ fs. heed (assigned m text hyphen count (drop row rows) fs) (λ ts. Ok (sum_on m text v at ts))) (sym n.1)
-                  ∙ mid.whole;
-            },
-      )
+  pub midway_more : KeepsLaws m → (s : Forward F) → Ok s ≡ forward m text f (seek f.tag count rows) → Midway m text hyphen whole fs s.rows s.count (joined v s.told) (option_or at (place_of (is_some s.told.closing) f.at))
+  midway_more laws s q =
+      let t = forwarded m text hyphen count rows f s q in
+      let ok = small_more laws s q in
+      let taken : Taken F = record { format = t.format; field = f } in
+      record {
+        done = mid.done + 1;
+        few = omega (arith, mid.few);
+        lines = few_more mid.done v.lines s.told.lines mid.lines ok.lines;
+        opening = told_first BalanceOk v.opening s.told.opening mid.opening ok.opening;
+        closes = closes_more at v.closing s.told.closing f.at mid.closes;
+        is =
+            on taken t.tells (assigned m text hyphen s.count s.rows fs)
+            ∙ ap (λ r. heed r (λ ts. Ok (sum_on m text v at ts))) (sym (t.goes_on fs))
+            ∙ mid.is;
+      }
     where
-      on : (fs : List Field) (t : Taken F) → told_in m text t ≡ s.told → (r : Result (List (Taken F)) Refusal) → heed r (λ ts. Ok (sum_on m text (joined v s.told) (cond (is_some v.closing) at t.field.at) ts)) ≡ heed (with_taken t r) (λ ts. Ok (sum_on m text v at ts))
-      on fs t k (Err x) = refl
-      on fs t k (Ok ts) = ap (λ a. Ok (sum_on m text (joined v a) (cond (is_some v.closing) at t.field.at) ts)) (sym k) ∙ ap Ok (sym (sum_more m text v at t ts))
+      on : (t : Taken F) → told_in m text t ≡ s.told → (r : Result (List (Taken F)) Refusal) → heed r (λ ts. Ok (sum_on m text (joined v s.told) (option_or at (place_of (is_some s.told.closing) t.field.at)) ts)) ≡ heed (with_taken t r) (λ ts. Ok (sum_on m text v at ts))
+      on t k (Err x) = refl
+      on t k (Ok ts) = ap (λ a. Ok (sum_on m text (joined v a) (option_or at (place_of (is_some a.closing) t.field.at)) ts)) (sym k) ∙ ap Ok (sym (sum_more m text v at t ts))
 
-  -- the next field is refused
-  pub midway_refused : (f : Field) → Some f ≡ more_of (next_at from (drop from text)) → (x : Refusal) → Err x ≡ forward m text f (seek f.tag count (drop row rows)) → Err x ≡ heed (assigned m text hyphen 0 rows (fields_found (body_at text start))) (λ ts. Ok (sum_of m text ts))
-  midway_refused f e x q =
-      let n = left_more text from mid.fs hyphen f mid.left (next_is text from f e) in
-      ap (λ r. heed r (λ ts. Ok (sum_on m text v at ts))) (sym (not_forwarded m text hyphen count (drop row rows) f x q n.0))
-      ∙ ap (λ fs. heed (assigned m text hyphen count (drop row rows) fs) (λ ts. Ok (sum_on m text v at ts))) (sym n.1)
-      ∙ mid.whole
+  -- it is refused
+  pub midway_refused : (x : Refusal) → Err x ≡ forward m text f (seek f.tag count rows) → Err x ≡ whole
+  midway_refused x q = ap (λ r. heed r (λ ts. Ok (sum_on m text v at ts))) (sym (not_forwarded m text hyphen count rows f x q fs)) ∙ mid.is
 
+module _ {F : Type 0} (m : Meaning F) (text : List ℕ) (hyphen : ℕ) (whole : Result Sum Refusal) (rows : List (Row F)) (count : ℕ) (v : Told) (at : Option ℕ) (mid : Midway m text hyphen whole [] rows count v at) where
   -- no field is left
-  pub midway_end : None ≡ more_of (next_at from (drop from text)) → (b : Bool) → b ≡ filled count (drop row rows) → heed (cond b (Ok []) (refused_at 8 hyphen)) (λ ts. Ok (sum_on m text v at ts)) ≡ heed (assigned m text hyphen 0 rows (fields_found (body_at text start))) (λ ts. Ok (sum_of m text ts))
-  midway_end e b is =
-      ap (λ b. heed (cond b (Ok []) (refused_at 8 hyphen)) (λ ts. Ok (sum_on m text v at ts))) is
-      ∙ ap (λ fs. heed (assigned m text hyphen count (drop row rows) fs) (λ ts. Ok (sum_on m text v at ts))) (sym (left_none text from mid.fs hyphen mid.left e))
-      ∙ mid.whole
+  pub midway_end : (b : Bool) → b ≡ filled count rows → heed (cond b (Ok []) (refused_at 8 hyphen)) (λ ts. Ok (sum_on m text v at ts)) ≡ whole
+  midway_end b is = ap (λ b. heed (cond b (Ok []) (refused_at 8 hyphen)) (λ ts. Ok (sum_on m text v at ts))) is ∙ mid.is
 
   pub adds_up : AddsUp v
   adds_up = by v.opening mid.opening
     where
-      by : (o : Option Balance) → IfTold BalanceOk o → IfTold (λ o. SFits w64 (o.hundredths +ℤ v.lines)) o
+      by : (o : Option Balance) → IfTold BalanceOk o → IfSome o (λ o. SFits w64 (o.hundredths +ℤ v.lines))
       by None h = tt
       by (Some o) h = few_fits (mid.done + 1) (o.hundredths +ℤ v.lines) (omega (arith, mid.few)) (few_behind mid.done o.hundredths v.lines h.bounded mid.lines)
 
-  pub sum_all : ◌≡◌ {A = Result Sum Refusal} (Ok (record { values = v; closing_at = cond (is_some v.closing) at 0 })) (Ok (sum_on m text v at []))
-  sum_all = λ i. Ok (record { values = sym (joined_last v) i; closing_at = cond (is_some v.closing) at 0 })
+  pub sum_all : ◌≡◌ {A = Result Sum Refusal} (Ok (record { values = v; closing_at = unwrap_or at 0 })) (Ok (sum_on m text v at []))
+  sum_all = λ i. Ok (record { values = sym (joined_last v) i; closing_at = unwrap_or at 0 })

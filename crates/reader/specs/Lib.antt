@@ -1,7 +1,7 @@
 pub mod Values
 pub mod Meaning
 pub mod Rows
-pub mod Spots
+pub mod Sums
 pub mod Texts
 pub mod Steps
 pub mod Views

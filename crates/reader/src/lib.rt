@@ -1,7 +1,10 @@
 //! The reader: what a text's fields are by the rows of a module, what they tell, and whether the text is sound.
 #![tactic(auto)]
 
+mod gathered;
 mod interface;
+mod iter;
+mod laid;
 mod rows;
 mod texts;
 mod values;

@@ -21,22 +21,25 @@ pub struct Values<'a> {
     pub answer: Option<AnswerCode>,
 }
 
+// Nothing is told.
+pub(crate) const UNTOLD: Values<'static> = Values {
+    reference: None,
+    related: None,
+    account: None,
+    money: None,
+    number: None,
+    opening: None,
+    lines: 0,
+    closing: None,
+    answer: None,
+};
+
 impl<'a> Values<'a> {
-    // Nothing is told.
+    // The values of a content that tells nothing.
     pub fn none() -> Values<'a>
         ensures { told_by result ≡ untold }
     {
-        Values {
-            reference: None,
-            related: None,
-            account: None,
-            money: None,
-            number: None,
-            opening: None,
-            lines: 0,
-            closing: None,
-            answer: None,
-        }
+        UNTOLD
     }
 
     // These values, and behind them those of the next field: of each sort the first that is told

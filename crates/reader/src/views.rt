@@ -4,8 +4,9 @@ ghost use Rattle.content_party.specs.Parties.{parts_of};
 ghost use Rattle.reader.specs.Views.{sort_of, sort_told, view, views_told};
 
 use crate::interface::Module;
+use crate::laid::LaidOut;
 use crate::rows::format_for;
-use crate::texts::{nth_field, read_text};
+use crate::texts::read_text;
 use content_party::Party;
 use fields::Tag;
 use mt_text::Fault;
@@ -73,7 +74,8 @@ pub fn view_field<'a, M: Module>(
 {
     let reading = read_text(module, text)?;
     let layout = reading.layout;
-    let Some(field) = nth_field(text, layout, index) else {
+    let laid = LaidOut { text, layout };
+    let Some(field) = laid.nth_field(index) else {
         return Ok(None);
     };
     let Some(rows) = module.rows(layout.message_type) else {

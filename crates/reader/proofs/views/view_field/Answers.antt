@@ -15,11 +15,11 @@ returns-in_err-reading g c =
     let m = g.M.Module.meaning in
     rw (p.1, p.2) (ap (λ q. heed q (λ s. Ok (option_map (viewed m c.args.text.now) (slice_get s.taken c.args.index)))) (sym (read_unsound m c.args.text.now (refusal_of c.in_err-reading.field-0.0) c.in_err-reading.ensures)))
 
-pub nth_field-requires : goal.nth_field-requires
-nth_field-requires g c =
+pub invariant_of-laid : goal.invariant_of-laid
+invariant_of-laid g c =
     let l = c.in_ok-reading.reading.layout in
     let r = read_sound g.M.Module.meaning c.args.text.now (record { layout = l; values = told_by c.in_ok-reading.reading.values }) c.in_ok-reading.ensures in
-    (read_passed g.M.Module.meaning c.args.text.now l r).laid
+    record { laid = (read_passed g.M.Module.meaning c.args.text.now l r).laid }
 
 pub returns-in_default : goal.returns-in_default
 returns-in_default g c =
