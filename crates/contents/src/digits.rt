@@ -38,7 +38,8 @@ pub fn read_number(digits: &[u8]) -> Option<u64>
     Some(number)
 }
 
-// Where the byte first stands, or the text's length.
+// Where the byte first stands, or the text's length: a line ends at its CR or with the text, so that
+// an Option would be turned into the length by each caller.
 pub fn place_of(b: u8, text: &[u8]) -> usize
     ensures { result ≡ place b text.now }
 {

@@ -59,6 +59,8 @@ pub fn is_letter_or_digit(b: u8) -> bool
     matches!(b, b'A'..=b'Z' | b'a'..=b'z' | b'0'..=b'9')
 }
 
+// A class is named by the rules and there are no others, so that a match over them says more than a
+// predicate that each caller passes in and answers for.
 impl Class {
     // Whether the byte belongs to the class.
     pub fn has(self, b: u8) -> bool

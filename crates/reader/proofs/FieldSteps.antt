@@ -56,14 +56,6 @@ module _ (text : List ℕ) (i : ℕ) (whole : is_ok (body_at text i) ≡ true) w
           let longer = found_longer (length text) text (behind f) b q in
           record { whole = ap is_ok longer; is = at_next ∙ ap (λ r. fields_found (with_field f r)) q ∙ ap (λ r. f ∷ fields_found r) (sym longer) }
 
-  pub no_more : (n : Result Next Refusal) → n ≡ next_at i (drop i text) → ((f : Field) → n ≡ Ok (More f) → ⊥) → fields_from text i ≡ []
-  no_more n is none = by n refl is
-    where
-      by : (m : Result Next Refusal) → n ≡ m → m ≡ next_at i (drop i text) → fields_from text i ≡ []
-      by (Ok (More f)) q e = absurd (none f q)
-      by (Ok (End h)) q e = ap (λ r. fields_found (step_then (λ j. body_within (length text) text j) r)) (sym e)
-      by (Err x) q e = ap (λ r. fields_found (step_then (λ j. body_within (length text) text j) r)) (sym e)
-
 -- the line behind a field begins in the text, where it is said to begin
 pub behind_is : (text : List ℕ) (from : ℕ) (f : Field) (r : ℕ) → length text < 2 ^ 64 → Ok (More f) ≡ next_at from (drop from text) → r ≡ min (behind f) (2 ^ 64 - 1) → r ≡ behind f
 behind_is text from f r fits e b = omega (arith, field_within text from f e)

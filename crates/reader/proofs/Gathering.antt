@@ -91,10 +91,6 @@ few_fits n z h f = omega (arith, ints, f.low, f.high)
 
 -- ---- one field
 
-with_sum : {F X : Type 0} (t : Taken F) (r : Result (List (Taken F)) Refusal) (f : List (Taken F) → X) → heed (with_taken t r) (λ ts. Ok (f ts)) ≡ heed r (λ ts. Ok (f (t ∷ ts)))
-with_sum t (Ok ts) f = refl
-with_sum t (Err x) f = refl
-
 -- a field that is taken, as the walk has it
 pub record Forwarded {F : Type 0} (m : Meaning F) (text : List ℕ) (h n : ℕ) (rs : List (Row F)) (f : Field) (s : Forward F) : Type 0 where
   pub format : F

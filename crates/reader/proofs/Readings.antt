@@ -1,21 +1,13 @@
 -- Reading a text, once it is laid out, has a type of the module and few enough fields.
-use Rattle.std.proofs.Common.{◌≡◌, ℕ, ◌≤◌, leb, List, length, Some, Ok, Err, Result, sym, refl, ap, ◌∙◌}
-use Rattle.std.specs.List.{slice_get}
-use Rattle.std.proofs.lemmas.Bool.{leb-true}
+use Rattle.std.proofs.Common.{◌≡◌, ℕ, List, Some, Ok, Err, Result, sym, refl, ap, ◌∙◌}
 use Rattle.mt_text.specs.Refusals.{Refusal}
-use Rattle.fields.specs.declared.scan.Field.{Field}
 use Rattle.layout.specs.declared.walk.Layout.{Layout}
 use Rattle.layout.specs.Walk.{heed, laid_out}
 use Rattle.reader.specs.declared.interface.Row.{Row}
 use Rattle.reader.specs.Values.{Told}
 use Rattle.reader.specs.Meaning.{Meaning}
 use Rattle.reader.specs.Rows.{Taken, assigned}
-use Rattle.reader.specs.Texts.{fields_in, values_in, closing_at, typed, spot, few_enough, settled, Sum, sum_of, Sound, sound, Answer, reading_of}
-use Rattle.reader.proofs.Sounds.{unrefused}
-
--- not over 43 fields
-pub few_told : (fs : List Field) → Ok tt ≡ few_enough fs → length fs ≤ 43
-few_told fs e = leb-true (length fs) 43 (unrefused (leb (length fs) 43) (Ok tt) 6 (spot (slice_get fs 43)) tt (sym e)).0
+use Rattle.reader.specs.Texts.{fields_in, values_in, closing_at, typed, few_enough, settled, Sum, sum_of, Sound, sound, Answer, reading_of}
 
 -- what the fields tell together decides
 abbrev pub judged : Layout → Result Sum Refusal → Result Answer Refusal

@@ -29,7 +29,8 @@ pub trait Module {
 
     ghost meaning: { Meaning Self.Format };
 
-    // The rows of a type in their order, if the module has the type.
+    // The rows of a type in their order, if the module has the type. A type is a number, since any three
+    // digits may be laid out and only a module knows which of them it has.
     fn rows(&self, message_type: u16) -> Option<&[Row<Self::Format>]>
         ensures { listed result ≡ meaning.rows message_type };
 

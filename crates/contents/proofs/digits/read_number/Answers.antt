@@ -1,15 +1,9 @@
 use Rattle.std.proofs.Common.{◌+◌, ◌-◌, ◌*◌, ◌^◌, ◌<◌, ◌≤◌, get_or, arith}
 use Rattle.std.proofs.lemmas.Bool.Decides.{nat_tests}
-use Rattle.contents.proofs.Steps.{reads_more, reads_all, below_more, below_limit}
+use Rattle.contents.proofs.Steps.{below_limit}
 use Rattle.contents.proofs.digits.read_number.Goals as goal
 use Rattle.contents.proofs.digits.read_number.Goals.{Else-not-is_digit}
 
-pub returns-then-not-is_digit : goal.returns-then-not-is_digit
-returns-then-not-is_digit c =
-    let e = reads_more c.loop-b.number c.args.digits.now c.loop-b.b-index (omega arith) in
-    grind (arith, nat_tests)
-
--- the digit at hand
 small : (c : Else-not-is_digit) → get_or c.args.digits.now c.loop-b.b-index 0 - 48 ≤ 9
 small c = let d = c.if-not-is_digit.ensures in grind (arith, nat_tests)
 
@@ -21,15 +15,3 @@ overflow_mul-number c = omega (arith, fits c)
 
 pub overflow_add-number : goal.overflow_add-number
 overflow_add-number c = omega (arith, fits (goal.at.overflow_add-number c).Else-not-is_digit)
-
-pub loop-b-preserved : goal.loop-b-preserved
-loop-b-preserved c =
-    let e = reads_more c.loop-b.number c.args.digits.now c.loop-b.b-index c.loop-b-test.true in
-    let d = c.if-not-is_digit.ensures in
-    let b = below_more c.loop-b.number c.loop-b.b-index c.from.result c.loop-b.invariant.1 (omega (arith, small (goal.at.loop-b-preserved c).Else-not-is_digit)) in
-    grind (arith, nat_tests)
-
-pub returns : goal.returns
-returns c =
-    let e = reads_all c.loop-b.number c.args.digits.now c.loop-b.b-index c.loop-b-test.false in
-    grind (arith, nat_tests)
