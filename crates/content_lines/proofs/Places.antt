@@ -1,5 +1,6 @@
 -- Where a byte stands, and a content cut into its lines.
-use Rattle.std.proofs.Common.{◌≡◌, ℕ, zero, suc, ◌+◌, ◌-◌, ◌<◌, ◌≤◌, Bool, true, false, cond, not, ◌&&◌, ◌||◌, eqb, List, [], ◌∷◌, ◌++◌, length, get_or, drop, Some, None, sym, refl, ap, ◌∙◌, ⊎_elim, add-zero, arith}
+use Rattle.std.proofs.Common.{◌≡◌, ℕ, zero, suc, ◌+◌, ◌-◌, ◌<◌, ◌≤◌, Bool, true, false, cond, not, ◌&&◌, ◌||◌, eqb, List, [], ◌∷◌, ◌++◌, length, get_or, drop, Some, None, Option, Bor, sym, refl, ap, ◌∙◌, ⊎_elim, add-zero, arith}
+use Rattle.std.specs.Option.{MatchOption, option_map}
 use Rattle.std.proofs.lemmas.List.{get_or-drop, get_or_past, drop_more}
 use Rattle.std.proofs.lemmas.Bool.{cases_Bool, cases_lt, and_parts, eqb-true}
 use Rattle.std.proofs.lemmas.Bool.Decides.{nat_tests}
@@ -78,3 +79,12 @@ next_none bs h = by (goes_on bs) h
     by : (b : Bool) → None ≡ cond b (Some (next_line bs)) None → b ≡ false
     by true e = absurd (grind arith)
     by false e = refl
+
+-- a test of what `next_line` tells, asked by `is_some_and`
+pub next_passes : {Q : Bor (List ℕ) → Type 0} (bs : List ℕ) (test : List ℕ → Bool) (o : Option (Bor (List ℕ))) (r : Bool) → option_map (λ x. x.now) o ≡ next_of bs → MatchOption o (r ≡ false) Q → ((x : Bor (List ℕ)) → Q x → r ≡ test x.now) → r ≡ (goes_on bs && test (next_line bs))
+next_passes bs test None r e m q = let n = next_none bs e in grind (arith, nat_tests)
+next_passes bs test (Some x) r e m q =
+    let n = next_some bs x.now e in
+    let n0 = n.0 in
+    let t = q x m ∙ ap test n.1 in
+    grind (arith, nat_tests)
