@@ -9,7 +9,8 @@ use content_lines::put_parts;
 use contents::{Date, normal_amount, read_amount, read_date};
 use mt_text::Fault;
 
-// An amount of a currency on a day.
+// An amount of a currency on a day. `Balance` is a struct of its own and both are no aliases of a
+// generic one, since a definition in specs/ cannot name an alias.
 #[derive(Clone, Copy, PartialEq, Eq, Debug)]
 pub struct Money {
     pub date: Date,

@@ -13,8 +13,8 @@ use Rattle.content_lines.proofs.Shapes.{every_append, capitals_printable, alphan
 use Rattle.content_party.specs.declared.parties.Places.{Places}
 use Rattle.content_party.specs.declared.parties.Places.TheVariants.{EightOrEleven, ElevenOnly}
 use Rattle.content_party.specs.declared.parties.Party.{Party}
-use Rattle.content_party.specs.declared.parties.Party.TheVariants.{Code, AccountAndCode}
-use Rattle.content_party.specs.Parties.{parts_of, code_told, places_fit, is_code, account_at, account_in, Parts, code, account_and_code, one_line, party_of, account_of, code_at, head_part, code_part, filling, party_format}
+use Rattle.content_party.specs.declared.parties.Part.{Part}
+use Rattle.content_party.specs.Parties.{parts_in, parts_of, places_fit, is_code, account_at, account_in, Parts, code, account_and_code, one_line, party_of, account_of, code_at, head_part, code_part, filling, party_format}
 
 -- ---- bank codes
 
@@ -271,16 +271,12 @@ party_lawful places =
 
 -- ---- reading and writing
 
--- a second line that may not stand there
-pub no_second : (places : Places) (bs : List ℕ) → (line_end bs ≡ length bs → ⊥) → None ≡ next_of bs → None ≡ party_of places bs
-no_second places bs o e = sym (cond-false (one_line bs) _ _ (ne_eqb (line_end bs) (length bs) o) ∙ ap (λ o. and_then o (second places bs)) (sym e))
-
 abbrev code_in : Parts → List ℕ
 code_in (code c at) = c
 code_in (account_and_code a a_at c c_at) = c
 
 -- the code that is handed out is the part behind the head
-pub code_handed : (places : Places) (bs : List ℕ) (p : Party) → parts_of (Some p) ≡ party_of places bs → (is_some (party_of places bs) ≡ true) × (code_told p ≡ code_part bs)
+pub code_handed : (places : Places) (bs : List ℕ) (p : Party) → parts_of (Some p) ≡ party_of places bs → (is_some (party_of places bs) ≡ true) × (p.code.bytes.now ≡ code_part bs)
 code_handed places bs p e =
     let h : is_some (party_of places bs) ≡ true = ap is_some (sym e) ∙ some_parts p in (
       h,
@@ -295,9 +291,11 @@ code_handed places bs p e =
     )
   where
     some_parts : (p : Party) → is_some (parts_of (Some p)) ≡ true
-    some_parts (Code c at) = refl
-    some_parts (AccountAndCode a a_at c c_at) = refl
+    some_parts p = refl
 
-    by : (p : Party) (q : Parts) → parts_of (Some p) ≡ Some q → code_told p ≡ code_in q
-    by (Code c at) q e = let f : code c.now at ≡ q = cc in ap code_in f
-    by (AccountAndCode a a_at c c_at) q e = let f : account_and_code a.now a_at c.now c_at ≡ q = cc in ap code_in f
+    code_told : (a : Option Part) (c : Part) → c.bytes.now ≡ code_in (parts_in a c)
+    code_told None c = refl
+    code_told (Some a) c = refl
+
+    by : (p : Party) (q : Parts) → parts_of (Some p) ≡ Some q → p.code.bytes.now ≡ code_in q
+    by p q e = let f : parts_in p.account p.code ≡ q = cc in code_told p.account p.code ∙ ap code_in f
