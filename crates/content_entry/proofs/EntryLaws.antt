@@ -16,9 +16,12 @@ use Rattle.content_money.proofs.Dated.{amount_printable}
 use Rattle.content_entry.specs.Behind.{is_behind}
 use Rattle.content_entry.specs.Entries.{amount_at, front_of, run, front, rest, amount, behind, is_above, entry_of, entry_format}
 use Rattle.content_entry.proofs.Steps.{run_within}
-use Rattle.content_entry.proofs.Cuts.{entry_read}
 use Rattle.content_entry.proofs.FrontLaws.{same_start, same_front, front_printable}
 use Rattle.content_entry.proofs.BehindLaws.{behind_laid}
+
+-- once the sign is read, amount and what stands behind it decide
+pub entry_read : (bs : List ℕ) (sign : Sign) → Some sign ≡ front_of bs → entry_of bs ≡ cond (is_above (amount bs) && is_behind (behind bs)) (signed_of sign (amount bs)) None
+entry_read bs sign e = ap (λ o. and_then o (λ sign. cond (is_above (amount bs) && is_behind (behind bs)) (signed_of sign (amount bs)) None)) (sym e)
 
 -- ---- the run of an amount
 

@@ -23,9 +23,9 @@ pub struct Balance {
 fn sign_of(mark: u8) -> Option<Sign>
     ensures { result ≡ mark_of mark }
 {
-    match mark as char {
-        'C' => Some(Sign::Plus),
-        'D' => Some(Sign::Minus),
+    match mark {
+        b'C' => Some(Sign::Plus),
+        b'D' => Some(Sign::Minus),
         _ => None,
     }
 }
