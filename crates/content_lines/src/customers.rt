@@ -6,7 +6,7 @@ ghost use Rattle.content_lines.specs.Customers.{account_and_name, is_customer, c
 
 use crate::lines::{Lines, first_line, is_line, next_line};
 use crate::parts::put_accepted;
-use mt_text::{Fault, byte_at};
+use mt_text::Fault;
 
 // Name and address: 4*35x.
 const NAME: Lines = Lines {
@@ -25,10 +25,9 @@ fn is_account_and_name(bytes: &[u8]) -> bool
 pub fn is_customer(content: &[u8]) -> bool
     ensures { result ≡ is_customer content.now }
 {
-    if byte_at(content, 0) == b'/' {
-        is_account_and_name(&content[1..])
-    } else {
-        NAME.accepts(content)
+    match content.strip_prefix(b"/") {
+        Some(rest) => is_account_and_name(rest),
+        None => NAME.accepts(content),
     }
 }
 

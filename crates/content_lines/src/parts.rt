@@ -28,18 +28,12 @@ pub fn put_parts(
     ensures answer { told result ≡ fitted (first.now ++ (second.now ++ third.now)) buffer.old }
     ensures buffer { buffer.new ≡ overwritten (first.now ++ (second.now ++ third.now)) buffer.old }
 {
-    if first.len() > buffer.len() {
+    let middle = first.len().saturating_add(second.len());
+    let end = middle.saturating_add(third.len());
+    if end > buffer.len() {
         return Err(Fault::ShortBuffer);
     }
-    if second.len() > buffer.len() - first.len() {
-        return Err(Fault::ShortBuffer);
-    }
-    let middle = first.len() + second.len();
-    if third.len() > buffer.len() - middle {
-        return Err(Fault::ShortBuffer);
-    }
-    let end = middle + third.len();
-    buffer[0..first.len()].copy_from_slice(first);
+    buffer[..first.len()].copy_from_slice(first);
     buffer[first.len()..middle].copy_from_slice(second);
     buffer[middle..end].copy_from_slice(third);
     Ok(end)

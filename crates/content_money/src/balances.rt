@@ -34,11 +34,9 @@ fn sign_of(mark: u8) -> Option<Sign>
 pub fn read_balance(currency: [u8; 3], content: &[u8]) -> Option<Balance>
     ensures { result ≡ balance_of currency content.now }
 {
-    if content.is_empty() {
-        return None;
-    }
-    let sign = sign_of(content[0])?;
-    let money = read_dated(currency, &content[1..])?;
+    let (mark, dated) = content.split_first()?;
+    let sign = sign_of(*mark)?;
+    let money = read_dated(currency, dated)?;
     let hundredths = count(sign, money.hundredths);
     Some(Balance {
         date: money.date,

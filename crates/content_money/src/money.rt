@@ -9,8 +9,8 @@ use content_lines::put_parts;
 use contents::{Date, normal_amount, read_amount, read_date};
 use mt_text::Fault;
 
-// An amount of a currency on a day. `Balance` is a struct of its own and both are no aliases of a
-// generic one, since a definition in specs/ cannot name an alias.
+// An amount of a currency on a day. `Balance` has the same shape and is a struct of its own: a
+// definition in specs/ cannot name an alias of a generic one.
 #[derive(Clone, Copy, PartialEq, Eq, Debug)]
 pub struct Money {
     pub date: Date,
@@ -48,10 +48,7 @@ pub fn read_money(currency: [u8; 3], content: &[u8]) -> Option<Money>
 pub(crate) fn normal_rest(content: &[u8]) -> Option<&[u8]>
     ensures { option_map (λ x. x.now) result ≡ amount_part content.now }
 {
-    if content.len() < 9 {
-        return None;
-    }
-    normal_amount(&content[9..])
+    normal_amount(content.get(9..)?)
 }
 
 // Writes the normal content at the front of the buffer and answers its length. Refuses by 9 at 0

@@ -28,7 +28,7 @@ fn is_page(rest: &[u8]) -> bool
 fn read_digits(digits: &[u8]) -> Option<u32>
     ensures { result ≡ number_of_digits digits.now }
 {
-    if digits.is_empty() || digits.len() > 5 {
+    if !matches!(digits.len(), 1..=5) {
         return None;
     }
     let number = read_number(digits)?;

@@ -18,7 +18,7 @@ pub(crate) fn count(sign: Sign, hundredths: u64) -> i64
 {
     match sign {
         Sign::Plus => hundredths as i64,
-        Sign::Minus => 0 - hundredths as i64,
+        Sign::Minus => -(hundredths as i64),
     }
 }
 
