@@ -32,15 +32,6 @@ fn is_opener(b: u8) -> bool
     matches!(b, b':' | b'-')
 }
 
-// Whether behind the first line stand CR and LF and a line that may stand there.
-fn is_next_line(bytes: &[u8]) -> bool
-    ensures is { result ≡ goes_on bytes.now }
-    ensures room { result ≡ true → line_end bytes.now + 2 ≤ length bytes.now }
-{
-    let end = first_end(bytes);
-    end < bytes.len() && byte_at(bytes, end + 1) == b'\n' && !is_opener(byte_at(bytes, end + 2))
-}
-
 // The first line, without its line end.
 pub fn first_line(bytes: &[u8]) -> &[u8]
     ensures { result.now ≡ first_line bytes.now }
@@ -52,11 +43,8 @@ pub fn first_line(bytes: &[u8]) -> &[u8]
 pub fn next_line(bytes: &[u8]) -> Option<&[u8]>
     ensures { option_map (λ x. x.now) result ≡ next_of bytes.now }
 {
-    if is_next_line(bytes) {
-        Some(&bytes[first_end(bytes) + 2..])
-    } else {
-        None
-    }
+    let rest = bytes[first_end(bytes)..].strip_prefix(b"\r\n")?;
+    (!is_opener(byte_at(rest, 0))).then_some(rest)
 }
 
 // The format n*mx: how many lines a content has at most, and how many bytes a line has at most.
