@@ -1,7 +1,7 @@
 -- Where a byte stands, and a content cut into its lines.
-use Rattle.std.proofs.Common.{◌≡◌, ℕ, zero, suc, ◌+◌, ◌-◌, ◌<◌, ◌≤◌, Bool, true, false, cond, not, ◌&&◌, ◌||◌, eqb, List, [], ◌∷◌, ◌++◌, length, get_or, take, drop, Some, None, Option, Bor, sym, refl, ap, ◌∙◌, ⊎_elim, add-zero, add-one, arith}
+use Rattle.std.proofs.Common.{◌≡◌, ℕ, zero, suc, ◌+◌, ◌-◌, ◌<◌, ◌≤◌, Bool, true, false, cond, not, ◌&&◌, ◌||◌, eqb, List, [], ◌∷◌, ◌++◌, length, get_or, take, drop, Some, None, Option, Bor, sym, refl, ap, ◌∙◌, ⊎_elim, add-one, arith}
 use Rattle.std.specs.Option.{MatchOption, option_map}
-use Rattle.std.proofs.lemmas.List.{get_or-drop, get_or_past, drop_more}
+use Rattle.std.proofs.lemmas.List.{get_or_past, drop_more}
 use Rattle.std.specs.Str.{bytes_eq}
 use Rattle.std.proofs.lemmas.Bool.{cases_Bool, cases_lt, and_parts, eqb-true, cond-true, cond-false}
 use Rattle.std.proofs.lemmas.Bool.Decides.{nat_tests}
@@ -29,10 +29,6 @@ place_past b (x ∷ xs) ys h =
     let n : eqb x b ≡ false = grind (arith, nat_tests) in
     let ih : place b (xs ++ ys) ≡ length xs + place b ys = place_past b xs ys (grind (arith, nat_tests)) in
     ap (λ t. cond t 0 (place b (xs ++ ys) + 1)) n ∙ omega arith
-
--- the first byte of what is left
-pub first_of_rest : (bs : List ℕ) (n : ℕ) → get_or (drop n bs) 0 0 ≡ get_or bs n 0
-first_of_rest bs n = get_or-drop n bs 0 0 ∙ ap (λ k. get_or bs k 0) (add-zero n)
 
 -- where a byte is told that is not 0, the bytes have not ended
 pub at_byte : (bs : List ℕ) (i b : ℕ) → get_or bs i 0 ≡ b → 0 < b → i < length bs
@@ -96,10 +92,10 @@ crlf [] = refl
 crlf (b ∷ bs) =
     ⊎_elim
     (λ e.
-    let z : line_end (b ∷ bs) ≡ 0 = cond-true (eqb b 13) 0 (line_end bs + 1) e in
+    let z : line_end (b ∷ bs) ≡ 0 = cond-true _ _ _ e in
     ap (λ n. bytes_eq (take 2 (drop n (b ∷ bs))) (13 ∷ 10 ∷ [])) z ∙ here bs e ∙ sym (ap (λ n. eqb (get_or (b ∷ bs) (n + 1) 0) 10) z))
     (λ e.
-    let z : line_end (b ∷ bs) ≡ suc (line_end bs) = cond-false (eqb b 13) 0 (line_end bs + 1) e ∙ add-one (line_end bs) in
+    let z : line_end (b ∷ bs) ≡ suc (line_end bs) = cond-false _ _ _ e ∙ add-one (line_end bs) in
     let y : line_end (b ∷ bs) + 1 ≡ suc (line_end bs + 1) = omega arith in
     ap (λ n. bytes_eq (take 2 (drop n (b ∷ bs))) (13 ∷ 10 ∷ [])) z ∙ crlf bs ∙ sym (ap (λ n. eqb (get_or (b ∷ bs) n 0) 10) y))
     (cases_Bool (eqb b 13))

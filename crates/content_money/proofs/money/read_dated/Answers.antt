@@ -1,8 +1,7 @@
-use Rattle.std.proofs.Common.{◌≡◌, true, length, take, drop, ◌≤◌, Some, sym, ap, ◌∙◌, arith, rules}
+use Rattle.std.proofs.Common.{◌≡◌, true, length, take, drop, ◌≤◌, ap, ◌∙◌, arith, rules}
 use Rattle.std.specs.Str.{bytes_eq}
 use Rattle.std.proofs.lemmas.Slice.Eq.{bytes_eq-Decides}
 use Rattle.std.proofs.lemmas.List.{take_rest}
-use Rattle.contents.specs.Digits.{and_then}
 use Rattle.contents.specs.Amounts.{amount_of}
 use Rattle.content_money.proofs.Dated.{dated_read}
 use Rattle.content_money.proofs.money.read_dated.Goals as goal
@@ -13,5 +12,4 @@ returns c =
     let bs = c.args.content.now in
     let l : 9 ≤ length bs = omega arith in
     let s : bytes_eq (take 3 (drop 6 bs)) cur ≡ true = search (rules, bytes_eq-Decides) in
-    let a = c.in_ok-hundredths.ensures ∙ ap amount_of (take_rest bs 9) in
-    sym (dated_read cur bs c.in_ok-date.date l (sym c.in_ok-date.ensures) s ∙ ap (λ o. and_then o (λ h. Some (record { date = c.in_ok-date.date; currency = cur; hundredths = h }))) (sym a))
+    dated_read cur bs c.in_ok-date.date c.in_ok-hundredths.hundredths l c.in_ok-date.ensures s (c.in_ok-hundredths.ensures ∙ ap amount_of (take_rest bs 9))
