@@ -35,11 +35,11 @@ timed bs h = let t = told_some _ h in time_digits _ _ t.1
 
 stamp_plain : (s : List ℕ) → is_stamp s ≡ true → Plain s 15
 stamp_plain s h =
-    let p = and_parts _ _ h in
-    let q = and_parts _ _ p.1 in
+    let p = and_parts (eqb (length s) 15) (is_some (date_of (take 6 s)) && (is_some (time_of (take 4 (drop 6 s))) && (among (codes "+-") (get_or s 10 0) && is_some (time_of (drop 11 s))))) h in
+    let q = and_parts (is_some (date_of (take 6 s))) (is_some (time_of (take 4 (drop 6 s))) && (among (codes "+-") (get_or s 10 0) && is_some (time_of (drop 11 s)))) p.1 in
     let r = and_parts (is_some (time_of (take 4 (drop 6 s)))) (among (codes "+-") (get_or s 10 0) && is_some (time_of (drop 11 s))) q.1 in
-    let t = and_parts _ _ r.1 in
-    let n = eqb-true _ _ p.0 in
+    let t = and_parts (among (codes "+-") (get_or s 10 0)) (is_some (time_of (drop 11 s))) r.1 in
+    let n = eqb-true (length s) 15 p.0 in
     let t0 = t.0 in
     let sign : printable (get_or s 10 0) ≡ true = grind (arith, nat_tests) in
     let split : take 6 s ++ (take 4 (drop 6 s) ++ (get_or s 10 0 ∷ drop 11 s)) ≡ s =
@@ -51,7 +51,7 @@ stamp_plain s h =
           ap (every printable) (sym split)
           ∙ every_append printable (take 6 s) (take 4 (drop 6 s) ++ (get_or s 10 0 ∷ drop 11 s)) (digits_printable (take 6 s) (dated (take 6 s) q.0).digits)
           (every_append printable (take 4 (drop 6 s)) (get_or s 10 0 ∷ drop 11 s) (digits_printable (take 4 (drop 6 s)) (timed (take 4 (drop 6 s)) r.0).digits)
-          (and_from _ _ sign (digits_printable (drop 11 s) (timed (drop 11 s) t.1).digits)));
+          (and_from (printable (get_or s 10 0)) (every printable (drop 11 s)) sign (digits_printable (drop 11 s) (timed (drop 11 s) t.1).digits)));
       few = omega arith;
     }
 

@@ -3,7 +3,7 @@ use Rattle.std.proofs.Common.{◌≡◌, ℕ, suc, ◌+◌, ◌<◌, ◌≤◌, 
 use Rattle.std.proofs.lemmas.List.{take-append-drop, length-drop, length-take-le, drop_more, take_all}
 use Rattle.std.proofs.lemmas.Bool.{cases_Bool, and_parts, or_cases, eqb-true, cond-true, cond-false}
 use Rattle.std.proofs.lemmas.Bool.Decides.{nat_tests}
-use Rattle.mt_text.specs.Classes.{every, printable}
+use Rattle.mt_text.specs.Classes.{alphanumeric, capital, every, printable}
 use Rattle.content_lines.specs.Formats.{laid}
 use Rattle.content_lines.specs.Lines.{is_line, line_end, first_line, next_line, goes_on}
 use Rattle.content_lines.proofs.Places.{place_within, at_byte, goes_on_parts}
@@ -18,8 +18,8 @@ record Plain (bs : List ℕ) (most : ℕ) : Type 0 where
 
 type_plain : (t : List ℕ) → is_type t ≡ true → Plain t 4
 type_plain t h =
-    let p = and_parts _ _ h in
-    let q = and_parts _ _ p.1 in
+    let p = and_parts (eqb (length t) 4) (capital (get_or t 0 0) && every alphanumeric (drop 1 t)) h in
+    let q = and_parts (capital (get_or t 0 0)) (every alphanumeric (drop 1 t)) p.1 in
     let n = eqb-true (length t) 4 p.0 in
     let q0 = q.0 in
     let c : printable (get_or t 0 0) ≡ true = grind (arith, nat_tests) in
@@ -97,7 +97,7 @@ rest_laid bs h =
 
 pub behind_laid : (bs : List ℕ) → is_behind bs ≡ true → Laid bs 74
 behind_laid bs h =
-    let p = and_parts _ _ h in
+    let p = and_parts (is_type (take 4 bs)) (is_rest (drop 4 bs)) h in
     let t = type_plain (take 4 bs) p.0 in
     let r = rest_laid (drop 4 bs) p.1 in
     let d = length-drop 4 bs in

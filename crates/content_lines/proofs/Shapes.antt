@@ -3,7 +3,7 @@ use Rattle.std.proofs.Common.{◌≡◌, ℕ, zero, suc, ◌+◌, ◌*◌, ◌�
 use Rattle.std.proofs.lemmas.List.{length-drop, length-take-le, take_all}
 use Rattle.std.proofs.lemmas.Bool.{and_parts, and_from, or_cases, eqb-true, cond-true}
 use Rattle.std.proofs.lemmas.Bool.Decides.{nat_tests}
-use Rattle.mt_text.specs.Classes.{every, digit, capital, alphanumeric, printable}
+use Rattle.mt_text.specs.Classes.{between, every, digit, capital, alphanumeric, printable}
 use Rattle.content_lines.specs.Formats.{begins, laid, tidy}
 use Rattle.content_lines.specs.Lines.{is_line, line_end, first_line, next_line, goes_on, lines}
 use Rattle.content_lines.proofs.Places.{place_within, goes_on_parts}
@@ -59,8 +59,8 @@ pub record IsLine (width : ℕ) (line : List ℕ) : Type 0 where
   pub printed : every printable line ≡ true
 
 pub is_line_parts : (width : ℕ) (line : List ℕ) → is_line width line ≡ true → IsLine width line
-is_line_parts _ _ h =
-    let p = and_parts _ _ h in
+is_line_parts width line h =
+    let p = and_parts (between 1 width (length line)) (every printable line) h in
     let q = p.0 in
     record { some = grind (arith, nat_tests); most = grind (arith, nat_tests); printed = p.1 }
 

@@ -73,16 +73,16 @@ pub record Dated (cur bs : List ℕ) (m : Money) : Type 0 where
 
 pub dated_told : (cur bs : List ℕ) (m : Money) → dated_of cur bs ≡ Some m → Dated cur bs m
 dated_told cur bs m e =
-    let p = passed _ _ _ e in
-    let q = after _ _ _ p.1 in
-    let r = passed _ _ _ q.2 in
-    let s = after _ _ _ r.1 in
+    let p = passed (leb 9 (length bs)) (and_then (date_of (take 6 bs)) (λ d. cond (bytes_eq (take 3 (drop 6 bs)) cur) (and_then (amount_of (drop 9 bs)) (λ h. Some (record { date = d; currency = cur; hundredths = h }))) None)) m e in
+    let q = after (date_of (take 6 bs)) (λ d. cond (bytes_eq (take 3 (drop 6 bs)) cur) (and_then (amount_of (drop 9 bs)) (λ h. Some (record { date = d; currency = cur; hundredths = h }))) None) m p.1 in
+    let r = passed (bytes_eq (take 3 (drop 6 bs)) cur) (and_then (amount_of (drop 9 bs)) (λ h. Some (record { date = q.0; currency = cur; hundredths = h }))) m q.2 in
+    let s = after (amount_of (drop 9 bs)) (λ h. Some (record { date = q.0; currency = cur; hundredths = h })) m r.1 in
     let f = s.2 in
     let made : ◌≡◌ {A = Money} (record { date = q.0; currency = cur; hundredths = s.0 }) m = cc in
     let a = amount_told (drop 9 bs) s.0 s.1 in
     let w : s.0 ≡ m.hundredths = ap (λ m. m.hundredths) made in
     record {
-      long = leb-true _ _ p.0;
+      long = leb-true 9 (length bs) p.0;
       date = q.1 ∙ ap (λ m. Some m.date) made;
       same = (bytes_eq-Decides (take 3 (drop 6 bs)) cur).0 r.0;
       amount = a.0;

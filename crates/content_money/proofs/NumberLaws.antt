@@ -1,12 +1,12 @@
 -- Statement numbers: what is read, and their laws.
-use Rattle.std.proofs.Common.{◌≡◌, ℕ, ◌+◌, ◌-◌, ◌<◌, ◌≤◌, true, false, cond, ◌&&◌, eqb, List, [], ◌∷◌, ◌++◌, length, take, drop, is_some, Some, None, codes, decimal, sym, refl, ap, ◌∙◌, ⊎_elim, arith}
+use Rattle.std.proofs.Common.{ltb, ◌≡◌, ℕ, ◌+◌, ◌-◌, ◌<◌, ◌≤◌, true, false, cond, ◌&&◌, eqb, List, [], ◌∷◌, ◌++◌, length, take, drop, is_some, Some, None, codes, decimal, sym, refl, ap, ◌∙◌, ⊎_elim, arith}
 use Rattle.std.proofs.lemmas.Fmt.{decimal-digits_value}
 use Rattle.std.proofs.lemmas.Slice.Eq.{bytes_eq-Decides}
 use Rattle.std.proofs.lemmas.List.{take_at, drop_at, take-append-drop, length-append, nil_from_length}
 use Rattle.std.proofs.lemmas.Slice.{between_is}
 use Rattle.std.proofs.lemmas.Bool.{and_parts, or_cases, eqb-true, cond-true}
 use Rattle.std.proofs.lemmas.Bool.Decides.{nat_tests}
-use Rattle.mt_text.specs.Classes.{digit, every, printable}
+use Rattle.mt_text.specs.Classes.{between, digit, every, printable}
 use Rattle.contents.specs.Digits.{number, place}
 use Rattle.contents.specs.Amounts.{without_leading}
 use Rattle.contents.proofs.AmountParts.{own, digits_below}
@@ -28,11 +28,11 @@ record Parts (bs : List ℕ) : Type 0 where
 
 parts : (bs : List ℕ) → is_some (statement_number_of bs) ≡ true → Parts bs
 parts bs h =
-    let t = told_some _ h in
-    let p = passed _ _ _ t.1 in
-    let q = and_parts _ _ p.0 in
-    let r = and_parts _ _ q.0 in
-    let s = and_parts _ _ r.1 in
+    let t = told_some (statement_number_of bs) h in
+    let p = passed (is_number (digits bs) && is_page (page bs)) (Some (number (digits bs))) t.0 t.1 in
+    let q = and_parts (is_number (digits bs)) (is_page (page bs)) p.0 in
+    let r = and_parts (between 1 5 (length (digits bs))) (every digit (digits bs) && ltb 0 (number (digits bs))) q.0 in
+    let s = and_parts (every digit (digits bs)) (ltb 0 (number (digits bs))) r.1 in
     let r0 = r.0 in
     let s1 = s.1 in
     record { some = grind (arith, nat_tests); most = grind (arith, nat_tests); ds = s.0; above = grind (arith, nat_tests); rest = q.1 }
@@ -41,7 +41,7 @@ parts bs h =
 place_behind : (ds : List ℕ) → every digit ds ≡ true → place 47 (ds ++ codes "/1") ≡ length ds
 place_behind [] h = refl
 place_behind (d ∷ ds) h =
-    let p = and_parts _ _ h in
+    let p = and_parts (digit d) (every digit ds) h in
     let q = p.0 in
     let n : eqb d 47 ≡ false = grind (arith, nat_tests) in
     (λ i. cond (n i) 0 (place_behind ds p.1 i + 1)) ∙ omega arith

@@ -137,7 +137,7 @@ module _ (places : Places) (bs : List ℕ) where
   -- the two lines, with something more behind them
   two_more : (f : List ℕ) → Two places bs → is_code places (next_line bs ++ f) ≡ true → Two places (bs ++ f)
   two_more f t k =
-      let g = goes_on_parts _ t.on in
+      let g = goes_on_parts bs t.on in
       let e : line_end (bs ++ f) ≡ line_end bs = place_in 13 bs f (omega (arith, g.before)) in
       let l : first_line (bs ++ f) ≡ first_line bs = ap (λ n. take n (bs ++ f)) e ∙ take-append-le (line_end bs) bs f (omega (arith, g.before)) in
       let n : next_line (bs ++ f) ≡ next_line bs ++ f = ap (λ n. drop (n + 2) (bs ++ f)) e ∙ drop-append-le (line_end bs + 2) bs f g.before in
@@ -190,11 +190,11 @@ value_by : (places : Places) (bs : List ℕ) → One places bs ⊎ Two places bs
 value_by places bs w =
     ⊎_elim
     (λ p.
-    let z : head_part bs ≡ [] = ap (λ n. take n bs) (cond-true _ _ _ p.0) in
+    let z : head_part bs ≡ [] = ap (λ n. take n bs) (cond-true (one_line bs) 0 (line_end bs + 2) p.0) in
     ap account_of (one_told places bs p) ∙ sym (ap (λ h. account_in (take (length h - 2) h)) z))
     (λ t.
-    let g = goes_on_parts _ t.on in
-    let z : head_part bs ≡ take (line_end bs + 2) bs = ap (λ n. take n bs) (cond-false _ _ _ t.more) in
+    let g = goes_on_parts bs t.on in
+    let z : head_part bs ≡ take (line_end bs + 2) bs = ap (λ n. take n bs) (cond-false (one_line bs) 0 (line_end bs + 2) t.more) in
     let l : length (take (line_end bs + 2) bs) - 2 ≡ line_end bs = omega (arith, length-take-le (line_end bs + 2) bs g.before) in
     ap account_of (two_told places bs t)
     ∙ sym (ap (λ h. account_in (take (length h - 2) h)) z ∙ ap (λ n. account_in (take n (take (line_end bs + 2) bs))) l ∙ ap account_in (take-take (line_end bs) (line_end bs + 2) bs (omega arith)) ∙ t.is))
@@ -211,15 +211,15 @@ record Line (l : List ℕ) : Type 0 where
 
 account_line : (l a : List ℕ) → account_in l ≡ Some a → Line l
 account_line l a h =
-    let p = passed _ _ _ h in
-    let q = and_parts _ _ p.0 in
-    let s = eqb-true _ _ q.0 in
+    let p = passed (eqb (get_or l 0 0) 47 && is_line 34 (drop (account_at l) l)) (Some (drop (account_at l) l)) a h in
+    let q = and_parts (eqb (get_or l 0 0) 47) (is_line 34 (drop (account_at l) l)) p.0 in
+    let s = eqb-true (get_or l 0 0) 47 q.0 in
     ⊎_elim
     (λ e.
-    let z : account_at l ≡ 3 = cond-true _ _ _ e in
+    let z : account_at l ≡ 3 = cond-true (capital (get_or l 1 0) && eqb (get_or l 2 0) 47) 3 1 e in
     let r = is_line_parts 34 (drop 3 l) (ap (λ n. is_line 34 (drop n l)) (sym z) ∙ q.1) in
     let n = length-drop 3 l in
-    let x = and_parts _ _ e in
+    let x = and_parts (capital (get_or l 1 0)) (eqb (get_or l 2 0) 47) e in
     let x0 = x.0 in
     let c : printable (get_or l 1 0) ≡ true = grind (arith, nat_tests) in
     let y = eqb-true (get_or l 2 0) 47 x.1 in
@@ -230,7 +230,7 @@ account_line l a h =
       most = omega (arith, r.most);
     })
     (λ e.
-    let z : account_at l ≡ 1 = cond-false _ _ _ e in
+    let z : account_at l ≡ 1 = cond-false (capital (get_or l 1 0) && eqb (get_or l 2 0) 47) 3 1 e in
     let r = is_line_parts 34 (drop 1 l) (ap (λ n. is_line 34 (drop n l)) (sym z) ∙ q.1) in
     let n = length-drop 1 l in
     let t : l ≡ get_or l 0 0 ∷ drop 1 l = drop_more l 0 0 (omega (arith, r.some)) in
