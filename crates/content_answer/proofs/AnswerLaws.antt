@@ -1,11 +1,11 @@
 -- The laws of answers and related messages.
-use Rattle.std.proofs.Common.{◌≡◌, ℕ, ◌+◌, ◌≤◌, true, cond, ◌&&◌, ◌||◌, eqb, List, ◌∷◌, ◌++◌, length, get_or, take, drop, is_some, Some, None, codes, Option, sym, refl, ap, ◌∙◌, ⊎_elim, arith}
+use Rattle.std.proofs.Common.{◌≡◌, ℕ, ◌+◌, ◌≤◌, true, cond, ◌&&◌, eqb, List, ◌∷◌, ◌++◌, length, get_or, take, drop, is_some, Some, None, codes, Option, sym, refl, ap, ◌∙◌, ⊎_elim, arith}
 use Rattle.std.specs.Str.{bytes_eq}
 use Rattle.std.proofs.lemmas.Slice.Eq.{bytes_eq-Decides}
 use Rattle.std.proofs.lemmas.List.{drop-drop, take-append-drop, take_all, length-drop, length-take-le, drop_more, nil_from_length}
 use Rattle.std.proofs.lemmas.Bool.{cases_Bool, and_parts, and_from, or_cases, eqb-true, cond-false}
 use Rattle.std.proofs.lemmas.Bool.Decides.{nat_tests}
-use Rattle.mt_text.specs.Classes.{among, digit, every, printable}
+use Rattle.mt_text.specs.Classes.{among, every, printable}
 use Rattle.contents.specs.Digits.{and_then}
 use Rattle.contents.specs.Dates.{date_of}
 use Rattle.contents.specs.Times.{time_of}
@@ -28,10 +28,10 @@ record Plain (bs : List ℕ) (most : ℕ) : Type 0 where
 -- ---- stamps
 
 dated : (bs : List ℕ) → is_some (date_of bs) ≡ true → Digits 6 bs
-dated bs h = let t = told_some (date_of bs) h in date_digits bs t.0 t.1
+dated bs h = let t = told_some _ h in date_digits _ _ t.1
 
 timed : (bs : List ℕ) → is_some (time_of bs) ≡ true → Digits 4 bs
-timed bs h = let t = told_some (time_of bs) h in time_digits bs t.0 t.1
+timed bs h = let t = told_some _ h in time_digits _ _ t.1
 
 stamp_plain : (s : List ℕ) → is_stamp s ≡ true → Plain s 15
 stamp_plain s h =
@@ -58,10 +58,10 @@ stamp_plain s h =
 tail_plain : (t : List ℕ) → is_tail t ≡ true → Plain t 16
 tail_plain t h =
     ⊎_elim
-    (λ e. let n = nil_from_length t (eqb-true (length t) 0 e) in record { printed = ap (every printable) n; few = omega (arith, ap length n) })
+    (λ e. let n = nil_from_length t (eqb-true _ _ e) in record { printed = ap (every printable) n; few = omega (arith, ap length n) })
     (λ e.
     let p = and_parts (eqb (get_or t 0 0) 47) (is_stamp (drop 1 t)) e in
-    let b = eqb-true (get_or t 0 0) 47 p.0 in
+    let b = eqb-true _ _ p.0 in
     let s = stamp_plain (drop 1 t) p.1 in
     let q = and_parts (eqb (length (drop 1 t)) 15) _ p.1 in
     let m = eqb-true (length (drop 1 t)) 15 q.0 in
@@ -87,7 +87,7 @@ listed : {X : Type 0} (word w : List ℕ) (x : X) (rest : Option X) (y : X) → 
 listed word w x rest y p f h =
     ⊎_elim
     (λ e. ap (every printable) ((bytes_eq-Decides word w).0 e) ∙ p)
-    (λ e. f (sym (cond-false (bytes_eq word w) (Some x) rest e) ∙ h))
+    (λ e. f (sym (cond-false _ _ _ e) ∙ h))
     (cases_Bool (bytes_eq word w))
 
 never : {X : Type 0} (word : List ℕ) (y : X) → None ≡ Some y → every printable word ≡ true
@@ -130,7 +130,7 @@ answer_lawful = stands (λ bs. is_some (answer_of bs)) answer_of answer_tidy
 -- ---- related messages
 
 counted : (n : ℕ) (bs : List ℕ) → digits n bs ≡ true → Digits n bs
-counted n bs h = let p = and_parts (eqb (length bs) n) (every digit bs) h in record { long = eqb-true (length bs) n p.0; digits = p.1 }
+counted n bs h = let p = and_parts _ _ h in record { long = eqb-true _ _ p.0; digits = p.1 }
 
 record Shape (bs : List ℕ) (most : ℕ) : Type 0 where
   out : laid bs ≡ true
@@ -138,16 +138,16 @@ record Shape (bs : List ℕ) (most : ℕ) : Type 0 where
 
 day_shape : (bs : List ℕ) → is_day bs ≡ true → Shape bs 18
 day_shape bs h =
-    let p = and_parts (is_some (date_of (first_line bs))) (eqb (line_end bs) (length bs) || (goes_on bs && digits 10 (next_line bs))) h in
+    let p = and_parts _ _ h in
     let d = dated (first_line bs) p.0 in
     let x = length-take-le (line_end bs) bs (place_within 13 bs) in
     ⊎_elim
     (λ e.
-    let f = eqb-true (line_end bs) (length bs) e in
+    let f = eqb-true _ _ e in
     let a : first_line bs ≡ bs = take_all (line_end bs) bs (omega arith) in
     record { out = ap laid (sym a) ∙ laid_line (first_line bs) (digits_printable (first_line bs) d.digits); few = omega (arith, d.long) })
     (λ e.
-    let q = and_parts (goes_on bs) (digits 10 (next_line bs)) e in
+    let q = and_parts _ _ e in
     let n = counted 10 (next_line bs) q.1 in
     let o = goes_on_parts bs q.0 in
     let y = length-drop (line_end bs + 2) bs in
@@ -156,8 +156,8 @@ day_shape bs h =
 
 related_tidy : (bs : List ℕ) → is_related bs ≡ true → tidy bs ≡ true
 related_tidy bs h =
-    let p = and_parts (digits 3 (first_line bs)) (goes_on bs && is_day (next_line bs)) h in
-    let q = and_parts (goes_on bs) (is_day (next_line bs)) p.1 in
+    let p = and_parts _ _ h in
+    let q = and_parts _ _ p.1 in
     let d = counted 3 (first_line bs) p.0 in
     let s = day_shape (next_line bs) q.1 in
     let o = goes_on_parts bs q.0 in

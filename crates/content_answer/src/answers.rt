@@ -1,15 +1,13 @@
 //! Answers, 76: STAT[/stamp] CR LF code[/stamp].
-ghost use Rattle.std.specs.Prelude.{◌≡◌, is_some, codes};
+ghost use Rattle.std.specs.Prelude.{◌≡◌, codes};
 ghost use Rattle.mt_text.specs.Classes.{among};
-ghost use Rattle.contents.specs.Times.{time_of};
 ghost use Rattle.mt_text.specs.Refusals.{told};
 ghost use Rattle.content_lines.specs.Formats.{Lawful, answer, written};
-ghost use Rattle.content_answer.specs.Answers.{last_codes, code_of, is_stamp, is_tail, is_stat, coded, answer_of, answer_format};
+ghost use Rattle.content_answer.specs.Answers.{code_of, is_stamp, is_tail, is_stat, coded, answer_of, answer_format};
 
-use crate::days::is_date;
-use content_lines::{first_line, is_same, next_line};
-use contents::read_time;
-use mt_text::{Fault, put_front};
+use content_lines::{first_line, next_line, put_accepted};
+use contents::{is_date, is_time};
+use mt_text::Fault;
 
 // What an answer tells of an order.
 #[derive(Clone, Copy, PartialEq, Eq, Debug)]
@@ -25,52 +23,22 @@ pub enum AnswerCode {
     Inac,
 }
 
-// The codes that tell of errors and of waiting.
-fn read_last_codes(word: &[u8]) -> Option<AnswerCode>
-    ensures { result ≡ last_codes word.now }
-{
-    if is_same(word, b"ERRC") {
-        return Some(AnswerCode::Errc);
-    }
-    if is_same(word, b"ERRP") {
-        return Some(AnswerCode::Errp);
-    }
-    if is_same(word, b"WAIT") {
-        return Some(AnswerCode::Wait);
-    }
-    if is_same(word, b"SUSP") {
-        return Some(AnswerCode::Susp);
-    }
-    if is_same(word, b"INAC") {
-        Some(AnswerCode::Inac)
-    } else {
-        None
-    }
-}
-
 // The code of four letters.
 fn read_code(word: &[u8]) -> Option<AnswerCode>
     ensures { result ≡ code_of word.now }
 {
-    if is_same(word, b"REJT") {
-        return Some(AnswerCode::Rejt);
+    match word {
+        b"REJT" => Some(AnswerCode::Rejt),
+        b"CANC" => Some(AnswerCode::Canc),
+        b"EXEC" => Some(AnswerCode::Exec),
+        b"SETL" => Some(AnswerCode::Setl),
+        b"ERRC" => Some(AnswerCode::Errc),
+        b"ERRP" => Some(AnswerCode::Errp),
+        b"WAIT" => Some(AnswerCode::Wait),
+        b"SUSP" => Some(AnswerCode::Susp),
+        b"INAC" => Some(AnswerCode::Inac),
+        _ => None,
     }
-    if is_same(word, b"CANC") {
-        return Some(AnswerCode::Canc);
-    }
-    if is_same(word, b"EXEC") {
-        return Some(AnswerCode::Exec);
-    }
-    if is_same(word, b"SETL") {
-        return Some(AnswerCode::Setl);
-    }
-    read_last_codes(word)
-}
-
-fn is_time(text: &[u8]) -> bool
-    ensures { result ≡ is_some (time_of text.now) }
-{
-    read_time(text).is_some()
 }
 
 fn is_sign(b: u8) -> bool
@@ -83,52 +51,37 @@ fn is_sign(b: u8) -> bool
 fn is_stamp(stamp: &[u8]) -> bool
     ensures { result ≡ is_stamp stamp.now }
 {
-    if stamp.len() != 15 {
-        return false;
-    }
-    if !is_date(&stamp[0..6]) {
-        return false;
-    }
-    if !is_time(&stamp[6..10]) {
-        return false;
-    }
-    if !is_sign(stamp[10]) {
-        return false;
-    }
-    is_time(&stamp[11..15])
+    stamp.len() == 15
+        && is_date(&stamp[..6])
+        && is_time(&stamp[6..10])
+        && is_sign(stamp[10])
+        && is_time(&stamp[11..])
 }
 
 // Whether the bytes may stand behind a word: nothing, or a slash and a stamp.
 fn is_tail(tail: &[u8]) -> bool
     ensures { result ≡ is_tail tail.now }
 {
-    if tail.is_empty() {
-        return true;
+    match tail {
+        [] => true,
+        [b'/', stamp @ ..] => is_stamp(stamp),
+        _ => false,
     }
-    tail[0] == b'/' && is_stamp(&tail[1..tail.len()])
 }
 
 // Whether the line is STAT, perhaps with a stamp.
 fn is_stat(line: &[u8]) -> bool
     ensures { result ≡ is_stat line.now }
 {
-    if line.len() < 4 {
-        return false;
-    }
-    is_same(&line[0..4], b"STAT") && is_tail(&line[4..line.len()])
+    line.strip_prefix(b"STAT").is_some_and(is_tail)
 }
 
 // The code of a line, perhaps with a stamp.
 fn read_coded(line: &[u8]) -> Option<AnswerCode>
     ensures { result ≡ coded line.now }
 {
-    if line.len() < 4 {
-        return None;
-    }
-    if !is_tail(&line[4..line.len()]) {
-        return None;
-    }
-    read_code(&line[0..4])
+    let (word, tail) = line.split_at_checked(4)?;
+    if is_tail(tail) { read_code(word) } else { None }
 }
 
 // The answer code that the content tells, if it is an answer.
@@ -138,8 +91,7 @@ pub fn read_answer(content: &[u8]) -> Option<AnswerCode>
     if !is_stat(first_line(content)) {
         return None;
     }
-    let line = next_line(content)?;
-    read_coded(line)
+    read_coded(next_line(content)?)
 }
 
 // Writes the content at the front of the buffer and answers its length. Refuses by 9 at 0 what is
@@ -149,8 +101,5 @@ pub fn write_answer(content: &[u8], buffer: &mut [u8]) -> Result<usize, Fault>
     ensures buffer { buffer.new ≡ written answer_format content.now buffer.old }
     ensures laws { Lawful answer_format }
 {
-    let Some(_) = read_answer(content) else {
-        return Err(Fault::Content { at: 0 });
-    };
-    put_front(content, buffer)
+    put_accepted(read_answer(content).is_some(), content, buffer)
 }

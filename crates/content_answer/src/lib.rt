@@ -2,7 +2,6 @@
 #![tactic(auto)]
 
 mod answers;
-mod days;
 mod related;
 
 pub use answers::{AnswerCode, read_answer, write_answer};

@@ -4,9 +4,9 @@ ghost use Rattle.mt_text.specs.Refusals.{told};
 ghost use Rattle.content_lines.specs.Formats.{Lawful, answer, written};
 ghost use Rattle.content_answer.specs.Related.{digits, is_day, is_related, related_format};
 
-use crate::days::is_date;
-use content_lines::{first_end, first_line, next_line};
-use mt_text::{Class, Fault, all_of, put_front};
+use content_lines::{first_end, first_line, next_line, put_accepted};
+use contents::is_date;
+use mt_text::{Class, Fault, all_of};
 
 // Whether the bytes are so many digits.
 fn is_digits(count: usize, bytes: &[u8]) -> bool
@@ -19,29 +19,16 @@ fn is_digits(count: usize, bytes: &[u8]) -> bool
 fn is_day(bytes: &[u8]) -> bool
     ensures { result ≡ is_day bytes.now }
 {
-    if !is_date(first_line(bytes)) {
-        return false;
-    }
-    if first_end(bytes) == bytes.len() {
-        return true;
-    }
-    match next_line(bytes) {
-        Some(sequence) => is_digits(10, sequence),
-        None => false,
-    }
+    is_date(first_line(bytes))
+        && (first_end(bytes) == bytes.len()
+            || next_line(bytes).is_some_and(|sequence| is_digits(10, sequence)))
 }
 
 // Whether the content is a related message: its type, its day, perhaps session and sequence.
 pub fn is_related(content: &[u8]) -> bool
     ensures { result ≡ is_related content.now }
 {
-    if !is_digits(3, first_line(content)) {
-        return false;
-    }
-    match next_line(content) {
-        Some(day) => is_day(day),
-        None => false,
-    }
+    is_digits(3, first_line(content)) && next_line(content).is_some_and(is_day)
 }
 
 // Writes the content at the front of the buffer and answers its length. Refuses by 9 at 0 what is
@@ -51,8 +38,5 @@ pub fn write_related(content: &[u8], buffer: &mut [u8]) -> Result<usize, Fault>
     ensures buffer { buffer.new ≡ written related_format content.now buffer.old }
     ensures laws { Lawful related_format }
 {
-    if !is_related(content) {
-        return Err(Fault::Content { at: 0 });
-    }
-    put_front(content, buffer)
+    put_accepted(is_related(content), content, buffer)
 }

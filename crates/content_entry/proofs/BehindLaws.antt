@@ -3,7 +3,7 @@ use Rattle.std.proofs.Common.{◌≡◌, ℕ, suc, ◌+◌, ◌<◌, ◌≤◌, 
 use Rattle.std.proofs.lemmas.List.{take-append-drop, length-drop, length-take-le, drop_more, take_all}
 use Rattle.std.proofs.lemmas.Bool.{cases_Bool, and_parts, or_cases, eqb-true, cond-true, cond-false}
 use Rattle.std.proofs.lemmas.Bool.Decides.{nat_tests}
-use Rattle.mt_text.specs.Classes.{capital, alphanumeric, every, printable}
+use Rattle.mt_text.specs.Classes.{alphanumeric, capital, every, printable}
 use Rattle.content_lines.specs.Formats.{laid}
 use Rattle.content_lines.specs.Lines.{is_line, line_end, first_line, next_line, goes_on}
 use Rattle.content_lines.proofs.Places.{place_within, at_byte, goes_on_parts}
@@ -32,11 +32,11 @@ slashes_at [] h = absurd (omega arith)
 slashes_at (b ∷ bs) h =
     ⊎_elim
     (λ e.
-    let p = and_parts (eqb b 47) (eqb (get_or bs 0 0) 47) e in
-    let z : slashes (b ∷ bs) ≡ 0 = cond-true (eqb b 47 && eqb (get_or bs 0 0) 47) 0 (slashes bs + 1) e in
-    (ap (λ n. get_or (b ∷ bs) n 0) z ∙ eqb-true b 47 p.0, ap (λ n. get_or (b ∷ bs) (n + 1) 0) z ∙ eqb-true (get_or bs 0 0) 47 p.1))
+    let p = and_parts _ _ e in
+    let z : slashes (b ∷ bs) ≡ 0 = cond-true _ _ _ e in
+    (ap (λ n. get_or (b ∷ bs) n 0) z ∙ eqb-true _ _ p.0, ap (λ n. get_or (b ∷ bs) (n + 1) 0) z ∙ eqb-true _ _ p.1))
     (λ e.
-    let z : slashes (b ∷ bs) ≡ suc (slashes bs) = cond-false (eqb b 47 && eqb (get_or bs 0 0) 47) 0 (slashes bs + 1) e ∙ add-one (slashes bs) in
+    let z : slashes (b ∷ bs) ≡ suc (slashes bs) = cond-false _ _ _ e ∙ add-one (slashes bs) in
     let ih = slashes_at bs (omega arith) in
     let y : slashes (b ∷ bs) + 1 ≡ suc (slashes bs + 1) = omega arith in
     (ap (λ n. get_or (b ∷ bs) n 0) z ∙ ih.0, ap (λ n. get_or (b ∷ bs) n 0) y ∙ ih.1))
@@ -56,11 +56,11 @@ references_plain : (l : List ℕ) → is_references l ≡ true → Plain l 34
 references_plain l h =
     ⊎_elim
     (λ e.
-    let p = is_line_parts 16 l (sym (cond-true (eqb (slashes l) (length l)) (is_line 16 l) _ e) ∙ h) in
+    let p = is_line_parts 16 l (sym (cond-true _ _ _ e) ∙ h) in
     record { printed = p.printed; few = omega (arith, p.most) })
     (λ e.
-    let k : (is_line 16 (take (slashes l) l) && is_line 16 (drop (slashes l + 2) l)) ≡ true = sym (cond-false (eqb (slashes l) (length l)) (is_line 16 l) _ e) ∙ h in
-    let q = and_parts (is_line 16 (take (slashes l) l)) (is_line 16 (drop (slashes l + 2) l)) k in
+    let k : (is_line 16 (take (slashes l) l) && is_line 16 (drop (slashes l + 2) l)) ≡ true = sym (cond-false _ _ _ e) ∙ h in
+    let q = and_parts _ _ k in
     let a = is_line_parts 16 (take (slashes l) l) q.0 in
     let b = is_line_parts 16 (drop (slashes l + 2) l) q.1 in
     let w = slashes_within l in
@@ -84,11 +84,11 @@ rest_laid bs h =
     let x = length-take-le (line_end bs) bs (place_within 13 bs) in
     ⊎_elim
     (λ e.
-    let f = eqb-true (line_end bs) (length bs) e in
+    let f = eqb-true _ _ e in
     let a : first_line bs ≡ bs = take_all (line_end bs) bs (omega arith) in
     record { out = ap laid (sym a) ∙ laid_line (first_line bs) d.printed; few = omega (arith, d.few) })
     (λ e.
-    let q = and_parts (goes_on bs) (is_line 34 (next_line bs)) e in
+    let q = and_parts _ _ e in
     let n = is_line_parts 34 (next_line bs) q.1 in
     let o = goes_on_parts bs q.0 in
     let y = length-drop (line_end bs + 2) bs in

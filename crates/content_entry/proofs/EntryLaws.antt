@@ -16,9 +16,12 @@ use Rattle.content_money.proofs.Dated.{amount_printable}
 use Rattle.content_entry.specs.Behind.{is_behind}
 use Rattle.content_entry.specs.Entries.{amount_at, front_of, run, front, rest, amount, behind, is_above, entry_of, entry_format}
 use Rattle.content_entry.proofs.Steps.{run_within}
-use Rattle.content_entry.proofs.Cuts.{entry_read}
 use Rattle.content_entry.proofs.FrontLaws.{same_start, same_front, front_printable}
 use Rattle.content_entry.proofs.BehindLaws.{behind_laid}
+
+-- once the sign is read, amount and what stands behind it decide
+pub entry_read : (bs : List ℕ) (sign : Sign) → Some sign ≡ front_of bs → entry_of bs ≡ cond (is_above (amount bs) && is_behind (behind bs)) (signed_of sign (amount bs)) None
+entry_read bs sign e = ap (λ o. and_then o (λ sign. cond (is_above (amount bs) && is_behind (behind bs)) (signed_of sign (amount bs)) None)) (sym e)
 
 -- ---- the run of an amount
 
@@ -30,19 +33,19 @@ run_stops [] = refl
 run_stops (b ∷ bs) =
     ⊎_elim
     (λ e.
-    let z : run (b ∷ bs) ≡ suc (run bs) = cond-true (part b) (run bs + 1) 0 e ∙ add-one (run bs) in
+    let z : run (b ∷ bs) ≡ suc (run bs) = cond-true _ _ _ e ∙ add-one (run bs) in
     ap (λ n. part (get_or (drop n (b ∷ bs)) 0 0)) z ∙ run_stops bs)
     (λ e.
-    let z : run (b ∷ bs) ≡ 0 = cond-false (part b) (run bs + 1) 0 e in
+    let z : run (b ∷ bs) ≡ 0 = cond-false _ _ _ e in
     ap (λ n. part (get_or (drop n (b ∷ bs)) 0 0)) z ∙ e)
     (cases_Bool (part b))
 
 run_behind : (xs ys : List ℕ) → every part xs ≡ true → part (get_or ys 0 0) ≡ false → run (xs ++ ys) ≡ length xs
 run_behind [] [] h k = refl
-run_behind [] (y ∷ ys) h k = cond-false (part y) (run ys + 1) 0 k
+run_behind [] (y ∷ ys) h k = cond-false _ _ _ k
 run_behind (x ∷ xs) ys h k =
-    let p = and_parts (part x) (every part xs) h in
-    cond-true (part x) (run (xs ++ ys) + 1) 0 p.0 ∙ ap (λ n. n + 1) (run_behind xs ys p.1 k) ∙ add-one (length xs)
+    let p = and_parts _ _ h in
+    cond-true _ _ _ p.0 ∙ ap (λ n. n + 1) (run_behind xs ys p.1 k) ∙ add-one (length xs)
 
 digits_part : (bs : List ℕ) → every digit bs ≡ true → every part bs ≡ true
 digits_part = every_weaker digit part (λ b h. ap (λ t. t || eqb b 44) h)
@@ -55,7 +58,7 @@ amount_run a h =
 -- an amount begins with a digit
 first_of_digits : (ds more : List ℕ) → every digit ds ≡ true → 1 ≤ length ds → digit (get_or (ds ++ more) 0 0) ≡ true
 first_of_digits [] more h l = absurd (omega arith)
-first_of_digits (d ∷ ds) more h l = (and_parts (digit d) (every digit ds) h).0
+first_of_digits (d ∷ ds) more h l = (and_parts _ _ h).0
 
 record First (a : List ℕ) : Type 0 where
   some : 1 ≤ length a
@@ -82,18 +85,18 @@ pub record Entry (bs : List ℕ) : Type 0 where
 
 pub entry_is : (bs : List ℕ) → is_some (entry_of bs) ≡ true → Entry bs
 entry_is bs h =
-    let t = told_some (entry_of bs) h in
-    let s = after (front_of bs) (λ sign. cond (is_above (amount bs) && is_behind (behind bs)) (signed_of sign (amount bs)) None) t.0 t.1 in
-    let p = passed (is_above (amount bs) && is_behind (behind bs)) (signed_of s.0 (amount bs)) t.0 s.2 in
-    let q = and_parts (is_above (amount bs)) (is_behind (behind bs)) p.0 in
-    let r = and_parts (is_amount (amount bs)) (ltb 0 (hundredths (amount bs))) q.0 in
+    let t = told_some _ h in
+    let s = after _ _ _ t.1 in
+    let p = passed _ _ _ s.2 in
+    let q = and_parts _ _ p.0 in
+    let r = and_parts _ _ q.0 in
     record { sign = s.0; signs = s.1; is = r.0; above = r.1; ends = q.1 }
 
 entry_told : (bs : List ℕ) (e : Entry bs) → entry_of bs ≡ Some (signed e.sign (hundredths (amount bs)))
 entry_told bs e =
     entry_read bs e.sign (sym e.signs)
-    ∙ cond-true (is_above (amount bs) && is_behind (behind bs)) _ None (and_from _ _ (and_from _ _ e.is e.above) e.ends)
-    ∙ ap (λ o. and_then o (λ h. Some (signed e.sign h))) (cond-true (is_amount (amount bs)) (Some (hundredths (amount bs))) None e.is)
+    ∙ cond-true _ _ _ (and_from _ _ (and_from _ _ e.is e.above) e.ends)
+    ∙ ap (λ o. and_then o (λ h. Some (signed e.sign h))) (cond-true _ _ _ e.is)
 
 -- its three parts
 pub record Split (bs : List ℕ) : Type 0 where

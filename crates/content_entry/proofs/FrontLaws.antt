@@ -96,7 +96,7 @@ module _ (f r s : List ℕ) (hr : digit (get_or r 0 0) ≡ true) (hs : digit (ge
       let part : (t : List ℕ) → take 4 (drop 6 (f ++ t)) ≡ take 4 (drop 6 f) =
       (λ t. ap (take 4) (drop-append-le 6 f t (omega arith)) ∙ take-append-le 4 (drop 6 f) t (omega (arith, length-drop 6 f))) in
       (λ i. cond (digit (six i)) (is_some (month_day_of ((part s ∙ sym (part r)) i))) true))
-      (λ d. ap (λ b. cond (digit b) (is_some (month_day_of (take 4 (drop 6 (f ++ s))))) true) six ∙ cond-false (digit (get_or (f ++ r) 6 0)) _ true d ∙ sym (cond-false (digit (get_or (f ++ r) 6 0)) _ true d))
+      (λ d. ap (λ b. cond (digit b) (is_some (month_day_of (take 4 (drop 6 (f ++ s))))) true) six ∙ cond-false _ _ _ d ∙ sym (cond-false _ _ _ d))
       (cases_Bool (digit (get_or (f ++ r) 6 0)))
 
   pub same_front : front_of (f ++ s) ≡ front_of (f ++ r)
@@ -128,18 +128,18 @@ take_one bs n h =
 sign_printable : (b c : ℕ) (s : Sign) → sign_of b c ≡ Some s → (printable b ≡ true) × (eqb b 82 ≡ true → printable c ≡ true)
 sign_printable b c s h =
     ⊎_elim
-    (λ e. (ap printable (eqb-true b 67 e), λ f. absurd (grind (arith, nat_tests))))
+    (λ e. (ap printable (eqb-true _ _ e), λ f. absurd (grind (arith, nat_tests))))
     (λ e.
     ⊎_elim
-    (λ f. (ap printable (eqb-true b 68 f), λ g. absurd (grind (arith, nat_tests))))
+    (λ f. (ap printable (eqb-true _ _ f), λ g. absurd (grind (arith, nat_tests))))
     (λ f.
-    let k : cond (eqb b 82) (cond (eqb c 67) (Some Minus) (cond (eqb c 68) (Some Plus) None)) None ≡ Some s = sym (cond-false (eqb b 67) (Some Plus) _ e ∙ cond-false (eqb b 68) (Some Minus) _ f) ∙ h in
-    let p = passed (eqb b 82) (cond (eqb c 67) (Some Minus) (cond (eqb c 68) (Some Plus) None)) s k in (
-      ap printable (eqb-true b 82 p.0),
+    let k : cond (eqb b 82) (cond (eqb c 67) (Some Minus) (cond (eqb c 68) (Some Plus) None)) None ≡ Some s = sym (cond-false _ _ _ e ∙ cond-false _ _ _ f) ∙ h in
+    let p = passed _ _ _ k in (
+      ap printable (eqb-true _ _ p.0),
       λ _.
           ⊎_elim
-          (λ g. ap printable (eqb-true c 67 g))
-          (λ g. ap printable (eqb-true c 68 (passed (eqb c 68) (Some Plus) s (sym (cond-false (eqb c 67) (Some Minus) (cond (eqb c 68) (Some Plus) None) g) ∙ p.1)).0))
+          (λ g. ap printable (eqb-true _ _ g))
+          (λ g. ap printable (eqb-true _ _ (passed (eqb c 68) (Some Plus) s (sym (cond-false (eqb c 67) (Some Minus) (cond (eqb c 68) (Some Plus) None) g) ∙ p.1)).0))
           (cases_Bool (eqb c 67)),
     ))
     (cases_Bool (eqb b 68)))
@@ -152,11 +152,11 @@ days_printable bs h k =
     let six = digits_printable (take 6 bs) (date_digits (take 6 bs) d.0 d.1).digits in
     ⊎_elim
     (λ e.
-    let z : mark_at bs ≡ 10 = cond-true (digit (get_or bs 6 0)) 10 6 e in
-    let j : is_some (month_day_of (take 4 (drop 6 bs))) ≡ true = sym (cond-true (digit (get_or bs 6 0)) (is_some (month_day_of (take 4 (drop 6 bs)))) true e) ∙ k in
-    let m = told_some (month_day_of (take 4 (drop 6 bs))) j in
+    let z : mark_at bs ≡ 10 = cond-true _ _ _ e in
+    let j : is_some (month_day_of (take 4 (drop 6 bs))) ≡ true = sym (cond-true _ _ _ e) ∙ k in
+    let m = told_some _ j in
     ap (λ n. every printable (take n bs)) z ∙ every_take bs 6 4 six (digits_printable (take 4 (drop 6 bs)) (month_day_digits (take 4 (drop 6 bs)) m.0 m.1).digits))
-    (λ e. let z : mark_at bs ≡ 6 = cond-false (digit (get_or bs 6 0)) 10 6 e in ap (λ n. every printable (take n bs)) z ∙ six)
+    (λ e. let z : mark_at bs ≡ 6 = cond-false _ _ _ e in ap (λ n. every printable (take n bs)) z ∙ six)
     (cases_Bool (digit (get_or bs 6 0)))
 
 -- one byte or two
@@ -173,7 +173,7 @@ capital_printable b h = grind (arith, nat_tests)
 
 pub front_printable : (bs : List ℕ) (s : Sign) → front_of bs ≡ Some s → (every printable (front bs) ≡ true) × (amount_at bs ≤ 13)
 front_printable bs s h =
-    let p = passed (is_some (date_of (take 6 bs)) && is_month_day bs) (sign_of (get_or bs (mark_at bs) 0) (get_or bs (mark_at bs + 1) 0)) s h in
+    let p = passed _ _ _ h in
     let q = and_parts (is_some (date_of (take 6 bs))) (is_month_day bs) p.0 in
     let m = sign_printable (get_or bs (mark_at bs) 0) (get_or bs (mark_at bs + 1) 0) s p.1 in
     let a = days_printable bs q.0 q.1 in

@@ -3,12 +3,12 @@ ghost use Rattle.std.specs.Prelude.{◌≡◌, ◌≤◌, ◌||◌, length, ◌=
 ghost use Rattle.mt_text.specs.Classes.{digit};
 ghost use Rattle.mt_text.specs.Refusals.{told};
 ghost use Rattle.content_lines.specs.Formats.{Lawful, answer, written};
-ghost use Rattle.content_entry.specs.Entries.{mark_at, is_month_day, sign_of, mark_end, amount_at, front_of, run, rest, is_above, entry_of, entry_format};
+ghost use Rattle.content_entry.specs.Entries.{mark_at, is_month_day, sign_of, mark_end, amount_at, front_of, run, front, amount, behind, is_above, entry_of, entry_format};
 
 use crate::behind::is_behind;
 use content_lines::put_parts;
 use content_money::{Sign, read_signed};
-use contents::{normal_amount, read_amount, read_date, read_month_day};
+use contents::{is_date, normal_amount, read_amount, read_month_day};
 use mt_text::{Fault, byte_at, is_capital, is_digit};
 
 // Where the mark begins: behind the date, or behind month and day.
@@ -23,27 +23,17 @@ fn mark_start(content: &[u8]) -> usize
 fn is_month_day(content: &[u8]) -> bool
     ensures { result ≡ is_month_day content.now }
 {
-    if !is_digit(byte_at(content, 6)) {
-        return true;
-    }
-    if content.len() < 10 {
-        return false;
-    }
-    read_month_day(&content[6..10]).is_some()
+    !is_digit(byte_at(content, 6))
+        || (content.len() >= 10 && read_month_day(&content[6..10]).is_some())
 }
 
 // How the mark counts; where it is an R, the byte behind it decides.
 fn read_mark(first: u8, second: u8) -> Option<Sign>
     ensures { result ≡ sign_of first second }
 {
-    match first as char {
-        'C' => Some(Sign::Plus),
-        'D' => Some(Sign::Minus),
-        'R' => match second as char {
-            'C' => Some(Sign::Minus),
-            'D' => Some(Sign::Plus),
-            _ => None,
-        },
+    match (first, second) {
+        (b'C', _) | (b'R', b'D') => Some(Sign::Plus),
+        (b'D', _) | (b'R', b'C') => Some(Sign::Minus),
         _ => None,
     }
 }
@@ -77,26 +67,11 @@ fn amount_start(content: &[u8]) -> usize
 fn read_front(content: &[u8]) -> Option<Sign>
     ensures { result ≡ front_of content.now }
 {
-    if content.len() < 6 {
-        return None;
-    }
-    let _ = read_date(&content[0..6])?;
-    if !is_month_day(content) {
+    if content.len() < 6 || !is_date(&content[..6]) || !is_month_day(content) {
         return None;
     }
     let start = mark_start(content);
     read_mark(byte_at(content, start), byte_at(content, start + 1))
-}
-
-// The amount and all behind it.
-fn from_amount(content: &[u8]) -> &[u8]
-    ensures { result.now ≡ rest content.now }
-{
-    let start = amount_start(content);
-    if start > content.len() {
-        return b"";
-    }
-    &content[start..content.len()]
 }
 
 fn is_amount_byte(b: u8) -> bool
@@ -110,22 +85,38 @@ fn run_of(bytes: &[u8]) -> usize
     ensures is { result ≡ run bytes.now }
     ensures within { result ≤ length bytes.now }
 {
-    for i in 0..bytes.len() {
-        if !is_amount_byte(bytes[i]) {
-            return i;
-        }
+    bytes.iter().take_while(|b| is_amount_byte(**b)).count()
+}
+
+// A content in three: what stands before the amount, the amount, and what stands behind it.
+#[derive(Clone, Copy)]
+struct Cut<'a> {
+    front: &'a [u8],
+    amount: &'a [u8],
+    behind: &'a [u8],
+}
+
+fn cut_at_amount(content: &[u8]) -> Cut<'_>
+    ensures front { result.front.now ≡ front content.now }
+    ensures amount { result.amount.now ≡ amount content.now }
+    ensures behind { result.behind.now ≡ behind content.now }
+{
+    let start = amount_start(content).min(content.len());
+    let (front, rest) = content.split_at(start);
+    let size = run_of(rest);
+    let (amount, behind) = rest.split_at(size);
+    Cut {
+        front,
+        amount,
+        behind,
     }
-    bytes.len()
 }
 
 // Whether the text is an amount above zero.
 fn is_above_zero(text: &[u8]) -> bool
     ensures { result ≡ is_above text.now }
 {
-    match read_amount(text) {
-        Some(hundredths) => hundredths > 0,
-        None => false,
-    }
+    read_amount(text).is_some_and(|hundredths| hundredths > 0)
 }
 
 // The signed hundredths that the content tells, if it is a statement entry.
@@ -133,15 +124,11 @@ pub fn read_entry(content: &[u8]) -> Option<i64>
     ensures { result ≡ entry_of content.now }
 {
     let sign = read_front(content)?;
-    let rest = from_amount(content);
-    let size = run_of(rest);
-    if !is_above_zero(&rest[0..size]) {
+    let cut = cut_at_amount(content);
+    if !is_above_zero(cut.amount) || !is_behind(cut.behind) {
         return None;
     }
-    if !is_behind(&rest[size..rest.len()]) {
-        return None;
-    }
-    read_signed(sign, &rest[0..size])
+    read_signed(sign, cut.amount)
 }
 
 // Writes the normal content at the front of the buffer and answers its length. Refuses by 9 at 0
@@ -151,14 +138,8 @@ pub fn write_entry(content: &[u8], buffer: &mut [u8]) -> Result<usize, Fault>
     ensures buffer { buffer.new ≡ written entry_format content.now buffer.old }
     ensures laws { Lawful entry_format }
 {
-    let Some(_) = read_entry(content) else {
-        return Err(Fault::Content { at: 0 });
-    };
-    let start = amount_start(content);
-    let rest = from_amount(content);
-    let size = run_of(rest);
-    let Some(amount) = normal_amount(&rest[0..size]) else {
-        return Err(Fault::Content { at: 0 });
-    };
-    put_parts(&content[0..start], amount, &rest[size..rest.len()], buffer)
+    read_entry(content).ok_or(Fault::Content { at: 0 })?;
+    let cut = cut_at_amount(content);
+    let amount = normal_amount(cut.amount).ok_or(Fault::Content { at: 0 })?;
+    put_parts(cut.front, amount, cut.behind, buffer)
 }

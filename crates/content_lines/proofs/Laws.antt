@@ -37,14 +37,14 @@ never : (c : List ℕ) → false ≡ true → tidy c ≡ true
 never c h = absurd (grind arith)
 
 word_tidy_by : (words : Words) (c : List ℕ) → one_of (words_of words) c ≡ true → tidy c ≡ true
-word_tidy_by Credit c h = ⊎_elim (λ e. word_tidy (codes "CRED") c e refl) (never c) (or_cases (bytes_eq c (codes "CRED")) false h)
+word_tidy_by Credit c h = ⊎_elim (λ e. word_tidy (codes "CRED") c e refl) (never c) (or_cases _ _ h)
 word_tidy_by Charges c h =
     ⊎_elim (λ e. word_tidy (codes "BEN") c e refl)
     (λ k.
     ⊎_elim (λ e. word_tidy (codes "OUR") c e refl)
-    (λ l. ⊎_elim (λ e. word_tidy (codes "SHA") c e refl) (never c) (or_cases (bytes_eq c (codes "SHA")) false l))
-    (or_cases (bytes_eq c (codes "OUR")) (one_of (codes "SHA" ∷ []) c) k))
-    (or_cases (bytes_eq c (codes "BEN")) (one_of (codes "OUR" ∷ codes "SHA" ∷ []) c) h)
+    (λ l. ⊎_elim (λ e. word_tidy (codes "SHA") c e refl) (never c) (or_cases _ _ l))
+    (or_cases _ _ k))
+    (or_cases _ _ h)
 
 pub words_lawful : (words : Words) → Lawful (words_format words)
 words_lawful words = stands (one_of (words_of words)) (λ _. tt) (word_tidy_by words)
@@ -65,15 +65,15 @@ customer_tidy : (c : List ℕ) → is_customer c ≡ true → tidy c ≡ true
 customer_tidy c h =
     ⊎_elim
     (λ e.
-    let k : account_and_name (drop 1 c) ≡ true = sym (cond-true (eqb (get_or c 0 0) 47) (account_and_name (drop 1 c)) (lines 4 35 c) e) ∙ h in
+    let k : account_and_name (drop 1 c) ≡ true = sym (cond-true _ _ _ e) ∙ h in
     let r = account_laid (drop 1 c) k in
-    let s = eqb-true (get_or c 0 0) 47 e in
+    let s = eqb-true _ _ e in
     let n : 0 < length c = at_byte c 0 47 s (omega arith) in
     let d = length-drop 1 c in
     let x : c ≡ 47 ∷ drop 1 c = drop_more c 0 0 n ∙ ap (λ b. b ∷ drop 1 c) s in
     tidy_from c n (omega (arith, r.few)) (ap laid x ∙ laid_cons (drop 1 c) r.out))
     (λ e.
-    let k : lines 4 35 c ≡ true = sym (cond-false (eqb (get_or c 0 0) 47) (account_and_name (drop 1 c)) (lines 4 35 c) e) ∙ h in
+    let k : lines 4 35 c ≡ true = sym (cond-false _ _ _ e) ∙ h in
     let r = lines_laid 4 35 c k in
     tidy_from c r.some (omega (arith, r.few)) r.out)
     (cases_Bool (eqb (get_or c 0 0) 47))

@@ -1,7 +1,9 @@
 -- Where a byte stands, and a content cut into its lines.
-use Rattle.std.proofs.Common.{◌≡◌, ℕ, zero, suc, ◌+◌, ◌-◌, ◌<◌, ◌≤◌, Bool, true, false, cond, not, ◌&&◌, ◌||◌, eqb, List, [], ◌∷◌, ◌++◌, length, get_or, drop, Some, None, sym, refl, ap, ◌∙◌, ⊎_elim, add-zero, arith}
-use Rattle.std.proofs.lemmas.List.{get_or-drop, get_or_past, drop_more}
-use Rattle.std.proofs.lemmas.Bool.{cases_Bool, cases_lt, and_parts, eqb-true}
+use Rattle.std.proofs.Common.{◌≡◌, ℕ, zero, suc, ◌+◌, ◌-◌, ◌<◌, ◌≤◌, Bool, true, false, cond, not, ◌&&◌, ◌||◌, eqb, List, [], ◌∷◌, ◌++◌, length, get_or, take, drop, Some, None, Option, Bor, sym, refl, ap, ◌∙◌, ⊎_elim, add-one, arith}
+use Rattle.std.specs.Option.{MatchOption, option_map}
+use Rattle.std.proofs.lemmas.List.{get_or_past, drop_more}
+use Rattle.std.specs.Str.{bytes_eq}
+use Rattle.std.proofs.lemmas.Bool.{cases_Bool, cases_lt, and_parts, eqb-true, cond-true, cond-false}
 use Rattle.std.proofs.lemmas.Bool.Decides.{nat_tests}
 use Rattle.contents.specs.Digits.{place}
 use Rattle.contents.proofs.AmountParts.{place_splits}
@@ -27,10 +29,6 @@ place_past b (x ∷ xs) ys h =
     let n : eqb x b ≡ false = grind (arith, nat_tests) in
     let ih : place b (xs ++ ys) ≡ length xs + place b ys = place_past b xs ys (grind (arith, nat_tests)) in
     ap (λ t. cond t 0 (place b (xs ++ ys) + 1)) n ∙ omega arith
-
--- the first byte of what is left
-pub first_of_rest : (bs : List ℕ) (n : ℕ) → get_or (drop n bs) 0 0 ≡ get_or bs n 0
-first_of_rest bs n = get_or-drop n bs 0 0 ∙ ap (λ k. get_or bs k 0) (add-zero n)
 
 -- where a byte is told that is not 0, the bytes have not ended
 pub at_byte : (bs : List ℕ) (i b : ℕ) → get_or bs i 0 ≡ b → 0 < b → i < length bs
@@ -78,3 +76,34 @@ next_none bs h = by (goes_on bs) h
     by : (b : Bool) → None ≡ cond b (Some (next_line bs)) None → b ≡ false
     by true e = absurd (grind arith)
     by false e = refl
+
+-- a test of what `next_line` tells, asked by `is_some_and`
+pub next_passes : {Q : Bor (List ℕ) → Type 0} (bs : List ℕ) (test : List ℕ → Bool) (o : Option (Bor (List ℕ))) (r : Bool) → option_map (λ x. x.now) o ≡ next_of bs → MatchOption o (r ≡ false) Q → ((x : Bor (List ℕ)) → Q x → r ≡ test x.now) → r ≡ (goes_on bs && test (next_line bs))
+next_passes bs test None r e m q = let n = next_none bs e in grind (arith, nat_tests)
+next_passes bs test (Some x) r e m q =
+    let n = next_some bs x.now e in
+    let n0 = n.0 in
+    let t = q x m ∙ ap test n.1 in
+    grind (arith, nat_tests)
+
+-- CR LF stands at a line's end where LF stands behind it
+pub crlf : (bs : List ℕ) → bytes_eq (take 2 (drop (line_end bs) bs)) (13 ∷ 10 ∷ []) ≡ eqb (get_or bs (line_end bs + 1) 0) 10
+crlf [] = refl
+crlf (b ∷ bs) =
+    ⊎_elim
+    (λ e.
+    let z : line_end (b ∷ bs) ≡ 0 = cond-true _ _ _ e in
+    ap (λ n. bytes_eq (take 2 (drop n (b ∷ bs))) (13 ∷ 10 ∷ [])) z ∙ here bs e ∙ sym (ap (λ n. eqb (get_or (b ∷ bs) (n + 1) 0) 10) z))
+    (λ e.
+    let z : line_end (b ∷ bs) ≡ suc (line_end bs) = cond-false _ _ _ e ∙ add-one (line_end bs) in
+    let y : line_end (b ∷ bs) + 1 ≡ suc (line_end bs + 1) = omega arith in
+    ap (λ n. bytes_eq (take 2 (drop n (b ∷ bs))) (13 ∷ 10 ∷ [])) z ∙ crlf bs ∙ sym (ap (λ n. eqb (get_or (b ∷ bs) n 0) 10) y))
+    (cases_Bool (eqb b 13))
+  where
+    here : (cs : List ℕ) → eqb b 13 ≡ true → bytes_eq (take 2 (b ∷ cs)) (13 ∷ 10 ∷ []) ≡ eqb (get_or (b ∷ cs) 1 0) 10
+    here [] e = grind (arith, nat_tests)
+    here (c ∷ cs) e = grind (arith, nat_tests)
+
+-- the second line, as CR LF and the byte behind it tell it
+pub next_by : (bs : List ℕ) → next_of bs ≡ cond (bytes_eq (take 2 (drop (line_end bs) bs)) (13 ∷ 10 ∷ []) && not (begins (next_line bs))) (Some (next_line bs)) None
+next_by bs = ap (λ b. cond (b && not (begins (next_line bs))) (Some (next_line bs)) None) (sym (crlf bs))

@@ -12,7 +12,7 @@ use Rattle.content_lines.proofs.Places.{place_within, goes_on_parts}
 
 pub every_weaker : (p q : ℕ → Bool) → ((b : ℕ) → p b ≡ true → q b ≡ true) → (bs : List ℕ) → every p bs ≡ true → every q bs ≡ true
 every_weaker p q f [] h = refl
-every_weaker p q f (b ∷ bs) h = let r = and_parts (p b) (every p bs) h in and_from (q b) (every q bs) (f b r.0) (every_weaker p q f bs r.1)
+every_weaker p q f (b ∷ bs) h = let r = and_parts _ _ h in and_from _ _ (f b r.0) (every_weaker p q f bs r.1)
 
 pub every_append : (p : ℕ → Bool) (xs ys : List ℕ) → every p xs ≡ true → every p ys ≡ true → every p (xs ++ ys) ≡ true
 every_append p [] ys h k = k
@@ -31,15 +31,15 @@ alphanumerics_printable = every_weaker alphanumeric printable (λ b h. grind (ar
 
 pub laid_more : (b : ℕ) (bs : List ℕ) → printable b ≡ true → laid bs ≡ true → laid (b ∷ bs) ≡ true
 laid_more b [] h k = h
-laid_more b (c ∷ bs) h k = cond-true (printable b) (laid (c ∷ bs)) _ h ∙ k
+laid_more b (c ∷ bs) h k = cond-true _ _ _ h ∙ k
 
 pub laid_line : (bs : List ℕ) → every printable bs ≡ true → laid bs ≡ true
 laid_line [] h = refl
-laid_line (b ∷ bs) h = let r = and_parts (printable b) (every printable bs) h in laid_more b bs r.0 (laid_line bs r.1)
+laid_line (b ∷ bs) h = let r = and_parts _ _ h in laid_more b bs r.0 (laid_line bs r.1)
 
 pub laid_lines : (line rest : List ℕ) → every printable line ≡ true → begins rest ≡ false → laid rest ≡ true → laid (line ++ 13 ∷ 10 ∷ rest) ≡ true
 laid_lines [] rest h n k = (λ i. not (n i) && k i)
-laid_lines (b ∷ line) rest h n k = let r = and_parts (printable b) (every printable line) h in laid_more b (line ++ 13 ∷ 10 ∷ rest) r.0 (laid_lines line rest r.1 n k)
+laid_lines (b ∷ line) rest h n k = let r = and_parts _ _ h in laid_more b (line ++ 13 ∷ 10 ∷ rest) r.0 (laid_lines line rest r.1 n k)
 
 pub tidy_from : (bs : List ℕ) → 1 ≤ length bs → length bs ≤ 220 → laid bs ≡ true → tidy bs ≡ true
 tidy_from bs l m h = grind (arith, nat_tests)
@@ -98,4 +98,4 @@ lines_laid (suc n) width bs h =
 -- bytes of x in front of a content that is laid out
 pub laid_behind : (front rest : List ℕ) → every printable front ≡ true → laid rest ≡ true → laid (front ++ rest) ≡ true
 laid_behind [] rest h k = k
-laid_behind (b ∷ front) rest h k = let r = and_parts (printable b) (every printable front) h in laid_more b (front ++ rest) r.0 (laid_behind front rest r.1 k)
+laid_behind (b ∷ front) rest h k = let r = and_parts _ _ h in laid_more b (front ++ rest) r.0 (laid_behind front rest r.1 k)

@@ -7,6 +7,6 @@ mod parts;
 mod words;
 
 pub use customers::{is_customer, write_customer};
-pub use lines::{first_end, first_line, is_line, next_line, read_lines, write_lines};
-pub use parts::put_parts;
-pub use words::{Words, is_same, is_word, write_word};
+pub use lines::{Lines, first_end, first_line, is_line, next_line};
+pub use parts::{put_accepted, put_parts};
+pub use words::{Words, is_word, write_word};

@@ -6,8 +6,9 @@ ghost use Rattle.mt_text.specs.Refusals.{told};
 ghost use Rattle.content_lines.specs.Formats.{Lawful, answer, written};
 ghost use Rattle.content_lines.specs.Lines.{is_line, line_end, first_line, next_of, goes_on, lines, lines_of, lines_format};
 
+use crate::parts::put_accepted;
 use contents::place_of;
-use mt_text::{Class, Fault, all_of, byte_at, put_front};
+use mt_text::{Class, Fault, all_of, byte_at};
 
 // Whether the bytes are one line of x, no longer than the width.
 pub fn is_line(width: usize, bytes: &[u8]) -> bool
@@ -31,85 +32,63 @@ fn is_opener(b: u8) -> bool
     matches!(b, b':' | b'-')
 }
 
-// Whether behind the first line stand CR and LF and a line that may stand there.
-fn is_next_line(bytes: &[u8]) -> bool
-    ensures is { result ≡ goes_on bytes.now }
-    ensures room { result ≡ true → line_end bytes.now + 2 ≤ length bytes.now }
-{
-    let end = first_end(bytes);
-    if end >= bytes.len() {
-        return false;
-    }
-    if byte_at(bytes, end + 1) != b'\n' {
-        return false;
-    }
-    !is_opener(byte_at(bytes, end + 2))
-}
-
 // The first line, without its line end.
 pub fn first_line(bytes: &[u8]) -> &[u8]
     ensures { result.now ≡ first_line bytes.now }
 {
-    &bytes[0..first_end(bytes)]
+    &bytes[..first_end(bytes)]
 }
 
 // What stands behind the first line and its CR LF, if a line that may stand there begins there.
 pub fn next_line(bytes: &[u8]) -> Option<&[u8]>
     ensures { option_map (λ x. x.now) result ≡ next_of bytes.now }
 {
-    if !is_next_line(bytes) {
-        return None;
-    }
-    Some(&bytes[first_end(bytes) + 2..bytes.len()])
+    let rest = bytes[first_end(bytes)..].strip_prefix(b"\r\n")?;
+    (!is_opener(byte_at(rest, 0))).then_some(rest)
 }
 
-// Whether the content is one to `count` lines.
-pub(crate) fn is_lines(count: usize, width: usize, content: &[u8]) -> bool
-    ensures { result ≡ lines count width content.now }
-{
-    let mut rest = content;
-    let mut left = count;
-    while left > 0 {
-        if !is_line(width, first_line(rest)) {
-            return false;
+// The format n*mx: how many lines a content has at most, and how many bytes a line has at most.
+#[derive(Clone, Copy, PartialEq, Eq, Debug)]
+pub struct Lines {
+    pub count: usize,
+    pub width: usize,
+}
+
+impl Lines {
+    // Whether the content is one to `count` lines.
+    pub fn accepts(self, content: &[u8]) -> bool
+        ensures { result ≡ lines self.count self.width content.now }
+    {
+        let mut rest = content;
+        for _ in 0..self.count {
+            if !is_line(self.width, first_line(rest)) {
+                return false;
+            }
+            if first_end(rest) == rest.len() {
+                return true;
+            }
+            let Some(next) = next_line(rest) else {
+                return false;
+            };
+            rest = next;
         }
-        if first_end(rest) == rest.len() {
-            return true;
-        }
-        let Some(next) = next_line(rest) else {
-            return false;
-        };
-        rest = next;
-        left -= 1;
+        false
     }
-    false
-}
 
-// The content, if it is one to `count` lines.
-pub fn read_lines(count: usize, width: usize, content: &[u8]) -> Option<&[u8]>
-    ensures { option_map (λ x. x.now) result ≡ lines_of count width content.now }
-{
-    if is_lines(count, width, content) {
-        Some(content)
-    } else {
-        None
+    // The content, if it is one to `count` lines.
+    pub fn read(self, content: &[u8]) -> Option<&[u8]>
+        ensures { option_map (λ x. x.now) result ≡ lines_of self.count self.width content.now }
+    {
+        self.accepts(content).then_some(content)
     }
-}
 
-// Writes the content at the front of the buffer and answers its length. Refuses by 9 at 0 what is
-// not one to `count` lines and by 14 a buffer that is too short; the buffer is then as it was.
-pub fn write_lines(
-    count: usize,
-    width: usize,
-    content: &[u8],
-    buffer: &mut [u8],
-) -> Result<usize, Fault>
-    ensures answer { told result ≡ answer (lines_format count width) content.now buffer.old }
-    ensures buffer { buffer.new ≡ written (lines_format count width) content.now buffer.old }
-    ensures laws { count * (width + 2) ≤ 222 → Lawful (lines_format count width) }
-{
-    if !is_lines(count, width, content) {
-        return Err(Fault::Content { at: 0 });
+    // Writes the content at the front of the buffer and answers its length. Refuses by 9 at 0 what
+    // is not one to `count` lines and by 14 a buffer that is too short; the buffer is then as it was.
+    pub fn write(self, content: &[u8], buffer: &mut [u8]) -> Result<usize, Fault>
+        ensures answer { told result ≡ answer (lines_format self.count self.width) content.now buffer.old }
+        ensures buffer { buffer.new ≡ written (lines_format self.count self.width) content.now buffer.old }
+        ensures laws { self.count * (self.width + 2) ≤ 222 → Lawful (lines_format self.count self.width) }
+    {
+        put_accepted(self.accepts(content), content, buffer)
     }
-    put_front(content, buffer)
 }

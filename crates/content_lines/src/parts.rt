@@ -1,9 +1,21 @@
-//! Writing a content in parts.
-ghost use Rattle.std.specs.Prelude.{◌≡◌, ◌++◌};
-ghost use Rattle.mt_text.specs.Refusals.{told};
+//! Writing a content: as it stands, or in parts.
+ghost use Rattle.std.specs.Prelude.{◌≡◌, ◌++◌, cond};
+ghost use Rattle.mt_text.specs.Refusals.{told, refused_at};
 ghost use Rattle.mt_text.specs.Lent.{fitted, overwritten};
 
-use mt_text::Fault;
+use mt_text::{Fault, put_front};
+
+// Writes an accepted content at the front of the buffer and answers its length. Refuses by 9 at 0
+// what is not accepted and by 14 a buffer that is too short; the buffer is then as it was.
+pub fn put_accepted(accepted: bool, content: &[u8], buffer: &mut [u8]) -> Result<usize, Fault>
+    ensures answer { told result ≡ cond accepted (fitted content.now buffer.old) (refused_at 9 0) }
+    ensures buffer { buffer.new ≡ cond accepted (overwritten content.now buffer.old) buffer.old }
+{
+    if !accepted {
+        return Err(Fault::Content { at: 0 });
+    }
+    put_front(content, buffer)
+}
 
 // Writes three parts, one behind the other, at the front of the buffer and answers how many bytes
 // they are; where they do not fit, refuses by 14 and leaves the buffer as it was.
@@ -16,18 +28,12 @@ pub fn put_parts(
     ensures answer { told result ≡ fitted (first.now ++ (second.now ++ third.now)) buffer.old }
     ensures buffer { buffer.new ≡ overwritten (first.now ++ (second.now ++ third.now)) buffer.old }
 {
-    if first.len() > buffer.len() {
+    let middle = first.len().saturating_add(second.len());
+    let end = middle.saturating_add(third.len());
+    if end > buffer.len() {
         return Err(Fault::ShortBuffer);
     }
-    if second.len() > buffer.len() - first.len() {
-        return Err(Fault::ShortBuffer);
-    }
-    let middle = first.len() + second.len();
-    if third.len() > buffer.len() - middle {
-        return Err(Fault::ShortBuffer);
-    }
-    let end = middle + third.len();
-    buffer[0..first.len()].copy_from_slice(first);
+    buffer[..first.len()].copy_from_slice(first);
     buffer[first.len()..middle].copy_from_slice(second);
     buffer[middle..end].copy_from_slice(third);
     Ok(end)

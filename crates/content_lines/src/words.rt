@@ -1,11 +1,11 @@
 //! Fixed words.
 ghost use Rattle.std.specs.Prelude.{◌≡◌};
-ghost use Rattle.std.specs.Str.{bytes_eq};
 ghost use Rattle.mt_text.specs.Refusals.{told};
 ghost use Rattle.content_lines.specs.Formats.{Lawful, answer, written};
 ghost use Rattle.content_lines.specs.Words.{words_of, one_of, words_format};
 
-use mt_text::{Fault, put_front};
+use crate::parts::put_accepted;
+use mt_text::Fault;
 
 // The lists of words that a field may be bound to.
 #[derive(Clone, Copy, PartialEq, Eq, Debug)]
@@ -14,22 +14,13 @@ pub enum Words {
     Charges, // BEN, OUR, SHA
 }
 
-// Whether two texts have the same bytes.
-pub fn is_same(bytes: &[u8], word: &[u8]) -> bool
-    ensures { result ≡ bytes_eq bytes.now word.now }
-{
-    bytes == word
-}
-
 // Whether the content is one of the words.
 pub fn is_word(words: Words, content: &[u8]) -> bool
     ensures { result ≡ one_of (words_of words) content.now }
 {
     match words {
-        Words::Credit => is_same(content, b"CRED"),
-        Words::Charges => is_same(content, b"BEN")
-            || is_same(content, b"OUR")
-            || is_same(content, b"SHA"),
+        Words::Credit => matches!(content, b"CRED"),
+        Words::Charges => matches!(content, b"BEN" | b"OUR" | b"SHA"),
     }
 }
 
@@ -40,8 +31,5 @@ pub fn write_word(words: Words, content: &[u8], buffer: &mut [u8]) -> Result<usi
     ensures buffer { buffer.new ≡ written (words_format words) content.now buffer.old }
     ensures laws { Lawful (words_format words) }
 {
-    if !is_word(words, content) {
-        return Err(Fault::Content { at: 0 });
-    }
-    put_front(content, buffer)
+    put_accepted(is_word(words, content), content, buffer)
 }

@@ -31,8 +31,8 @@ made cur sign m = record { date = m.date; currency = cur; hundredths = signed si
 
 pub balance_told : (cur bs : List ℕ) (b : Balance) → balance_of cur bs ≡ Some b → Told cur bs b
 balance_told cur bs b e =
-    let p = after (mark_of (get_or bs 0 0)) (λ sign. and_then (dated_of cur (drop 1 bs)) (λ m. Some (made cur sign m))) b e in
-    let q = after (dated_of cur (drop 1 bs)) (λ m. Some (made cur p.0 m)) b p.2 in
+    let p = after _ _ _ e in
+    let q = after _ _ _ p.2 in
     let f = q.2 in
     let same : made cur p.0 q.0 ≡ b = cc in
     record { sign = p.0; amount = q.0; mark = p.1; dated = q.1; counted = ap (λ b. b.hundredths) same }
@@ -68,13 +68,13 @@ mark_for Minus = 68
 mark_is : (a : ℕ) (s : Sign) → mark_of a ≡ Some s → a ≡ mark_for s
 mark_is a s e =
     ⊎_elim
-    (λ p. let q : Some Plus ≡ Some s = sym (cond-true (eqb a 67) (Some Plus) (cond (eqb a 68) (Some Minus) None) p) ∙ e in let r : Plus ≡ s = cc in eqb-true a 67 p ∙ ap mark_for r)
+    (λ p. let q : Some Plus ≡ Some s = sym (cond-true _ _ _ p) ∙ e in let r : Plus ≡ s = cc in eqb-true _ _ p ∙ ap mark_for r)
     (λ p.
-    let f : cond (eqb a 68) (Some Minus) None ≡ Some s = sym (cond-false (eqb a 67) (Some Plus) (cond (eqb a 68) (Some Minus) None) p) ∙ e in
-    let g = passed (eqb a 68) (Some Minus) s f in
+    let f : cond (eqb a 68) (Some Minus) None ≡ Some s = sym (cond-false _ _ _ p) ∙ e in
+    let g = passed _ _ _ f in
     let q = g.1 in
     let r : Minus ≡ s = cc in
-    eqb-true a 68 g.0 ∙ ap mark_for r)
+    eqb-true _ _ g.0 ∙ ap mark_for r)
     (cases_Bool (eqb a 67))
 
 -- equal signed amounts: one size, and one sign unless they are zero
@@ -92,7 +92,7 @@ same_size Minus Minus (suc h) (suc k) e = (cc, inr refl)
 same_mark : (a b : ℕ) (s t : Sign) (h k : ℕ) → mark_of a ≡ Some s → mark_of b ≡ Some t → h ≡ k → (h ≡ 0) ⊎ (s ≡ t) → cond (eqb h 0) 67 a ≡ cond (eqb k 0) 67 b
 same_mark a b s t h k e f p q =
     ⊎_elim
-    (λ z. cond-true (eqb h 0) 67 a (eq-eqb h 0 z) ∙ sym (cond-true (eqb k 0) 67 b (eq-eqb k 0 (sym p ∙ z))))
+    (λ z. cond-true _ _ _ (eq-eqb _ _ z) ∙ sym (cond-true _ _ _ (eq-eqb _ _ (sym p ∙ z))))
     (λ z. let ab : a ≡ b = mark_is a s e ∙ ap mark_for z ∙ sym (mark_is b t f) in (λ i. cond (eqb (p i) 0) 67 (ab i)))
     q
 
@@ -110,12 +110,12 @@ again cur bs b e =
     let own = balance_read cur bs t.sign m t.mark t.dated in
     ⊎_elim
     (λ z.
-    let n : m.hundredths ≡ 0 = sym (size cur bs b t) ∙ eqb-true (hundredths (drop 9 (drop 1 bs))) 0 z in
-    let k : mark_of (normal_mark bs) ≡ Some Plus = ap mark_of (cond-true (eqb (hundredths (drop 9 (drop 1 bs))) 0) 67 (get_or bs 0 0) z) in
+    let n : m.hundredths ≡ 0 = sym (size cur bs b t) ∙ eqb-true _ _ z in
+    let k : mark_of (normal_mark bs) ≡ Some Plus = ap mark_of (cond-true _ _ _ z) in
     let w : signed Plus m.hundredths ≡ signed t.sign m.hundredths = ap (signed Plus) n ∙ signed_zero Plus t.sign ∙ sym (ap (signed t.sign) n) in
     balance_read cur (balance_normal bs) Plus m k d ∙ (λ i. Some (record { date = m.date; currency = cur; hundredths = w i })) ∙ sym own)
     (λ z.
-    let k : mark_of (normal_mark bs) ≡ Some t.sign = ap mark_of (cond-false (eqb (hundredths (drop 9 (drop 1 bs))) 0) 67 (get_or bs 0 0) z) ∙ t.mark in
+    let k : mark_of (normal_mark bs) ≡ Some t.sign = ap mark_of (cond-false _ _ _ z) ∙ t.mark in
     balance_read cur (balance_normal bs) t.sign m k d ∙ sym own)
     (cases_Bool (eqb (hundredths (drop 9 (drop 1 bs))) 0))
 
@@ -139,8 +139,8 @@ record Alike (cur c d : List ℕ) : Type 0 where
 
 alike : (cur c d : List ℕ) → is_some (balance_of cur c) ≡ true → is_some (balance_of cur d) ≡ true → (balance_format cur).says c ≡ (balance_format cur).says d → Alike cur c d
 alike cur c d h k e =
-    let x = told_some (balance_of cur c) h in
-    let y = told_some (balance_of cur d) k in
+    let x = told_some _ h in
+    let y = told_some _ k in
     let s = said (take 9 (drop 1 c)) (take 9 (drop 1 d)) (worth (balance_of cur c)) (worth (balance_of cur d)) e in
     let t = balance_told cur c x.0 x.1 in
     let u = balance_told cur d y.0 y.1 in
@@ -195,8 +195,8 @@ mark_written cur bs b t r f g =
     let s = size cur bs b t in
     ⊎_elim
     (λ z.
-    let n : t.amount.hundredths ≡ 0 = sym s ∙ eqb-true h 0 z in
-    f (sym t.counted ∙ signed_at_zero t.sign t.amount.hundredths n) ∙ sym (cond-true (eqb h 0) 67 (get_or bs 0 0) z))
+    let n : t.amount.hundredths ≡ 0 = sym s ∙ eqb-true _ _ z in
+    f (sym t.counted ∙ signed_at_zero t.sign t.amount.hundredths n) ∙ sym (cond-true _ _ _ z))
     (λ z.
-    g (λ e. eqb-false h 0 z (s ∙ zero_signed t.sign t.amount.hundredths (t.counted ∙ e))) ∙ sym (cond-false (eqb h 0) 67 (get_or bs 0 0) z))
+    g (λ e. eqb-false _ _ z (s ∙ zero_signed t.sign t.amount.hundredths (t.counted ∙ e))) ∙ sym (cond-false _ _ _ z))
     (cases_Bool (eqb h 0))

@@ -1,5 +1,5 @@
 -- Date, currency and amount: what is read, and what the normal content tells.
-use Rattle.std.proofs.Common.{◌≡◌, ℕ, ◌^◌, ◌<◌, ◌≤◌, true, cond, eqb, leb, List, ◌∷◌, ◌++◌, length, take, drop, Some, None, Option, sym, ap, ◌∙◌, arith}
+use Rattle.std.proofs.Common.{leb, ◌≡◌, ℕ, ◌^◌, ◌<◌, ◌≤◌, true, cond, eqb, List, ◌∷◌, ◌++◌, length, take, drop, Some, None, Option, sym, ap, ◌∙◌, arith}
 use Rattle.std.specs.Str.{bytes_eq}
 use Rattle.std.proofs.lemmas.Slice.Eq.{bytes_eq-Decides}
 use Rattle.std.proofs.lemmas.List.{take-append-drop, take-append-le, drop-append-le, take_at, drop_at, drop-drop, length-append, length-drop, length-take-le}
@@ -8,7 +8,7 @@ use Rattle.mt_text.specs.Classes.{capital, every, printable}
 use Rattle.contents.specs.declared.dates.Date.{Date}
 use Rattle.contents.specs.Digits.{and_then}
 use Rattle.contents.specs.Dates.{date_of}
-use Rattle.contents.specs.Amounts.{whole, decimals, is_amount, hundredths, amount_of, normal, normal_of}
+use Rattle.contents.specs.Amounts.{whole, decimals, is_amount, hundredths, amount_of, normal}
 use Rattle.contents.proofs.AmountParts.{parts, worth}
 use Rattle.contents.proofs.NormalAmounts.{normal_is_amount, normal_worth, same_worth}
 use Rattle.content_lines.proofs.Chosen.{after, passed, date_digits}
@@ -19,7 +19,7 @@ use Rattle.content_money.specs.Money.{is_currency, dated_of, dated_normal, amoun
 -- ---- amounts
 
 pub amount_told : (bs : List ℕ) (h : ℕ) → amount_of bs ≡ Some h → (is_amount bs ≡ true) × (hundredths bs ≡ h)
-amount_told bs h e = let p = passed (is_amount bs) (Some (hundredths bs)) h e in let f = p.1 in (p.0, cc)
+amount_told bs h e = let p = passed _ _ _ e in let f = p.1 in (p.0, cc)
 
 -- the bound of every amount
 pub amount_below : (bs : List ℕ) (h : ℕ) → amount_of bs ≡ Some h → h < 10 ^ 16
@@ -30,9 +30,9 @@ amount_below bs h e =
 
 pub amount_again : (bs : List ℕ) → is_amount bs ≡ true → amount_of (normal bs) ≡ amount_of bs
 amount_again bs h =
-    cond-true (is_amount (normal bs)) (Some (hundredths (normal bs))) None (normal_is_amount bs h)
+    cond-true _ _ _ (normal_is_amount bs h)
     ∙ ap Some (normal_worth bs h)
-    ∙ sym (cond-true (is_amount bs) (Some (hundredths bs)) None h)
+    ∙ sym (cond-true _ _ _ h)
 
 pub amount_printable : (bs : List ℕ) → is_amount bs ≡ true → every printable bs ≡ true
 amount_printable bs h =
@@ -53,7 +53,7 @@ dated_at cur a c l =
     let d : drop 6 (a ++ c) ≡ drop 6 a ++ c = drop-append-le 6 a c (omega arith) in
     let u : take 3 (drop 6 a ++ c) ≡ take 3 (drop 6 a) = take-append-le 3 (drop 6 a) c (omega (arith, length-drop 6 a)) in
     let v : drop 9 (a ++ c) ≡ c = drop_at a c 9 l in
-    cond-true (leb 9 (length (a ++ c))) _ None (le-leb 9 (length (a ++ c)) n)
+    cond-true _ _ _ (le-leb _ _ n)
     ∙ (λ i. and_then (date_of (t i)) (λ e. cond (bytes_eq ((ap (take 3) d ∙ u) i) cur) (and_then (amount_of (v i)) (λ h. Some (record { date = e; currency = cur; hundredths = h }))) None))
 
 pub front_nine : (bs : List ℕ) → 9 ≤ length bs → length (take 9 bs) ≡ 9
@@ -90,12 +90,14 @@ dated_told cur bs m e =
       below = omega (arith, w, amount_below (drop 9 bs) s.0 s.1);
     }
 
--- once date and currency are read, the amount decides
-pub dated_read : (cur bs : List ℕ) (d : Date) → 9 ≤ length bs → date_of (take 6 bs) ≡ Some d → bytes_eq (take 3 (drop 6 bs)) cur ≡ true → dated_of cur bs ≡ and_then (amount_of (drop 9 bs)) (λ h. Some (record { date = d; currency = cur; hundredths = h }))
-dated_read cur bs d l e f =
-    cond-true (leb 9 (length bs)) _ None (le-leb 9 (length bs) l)
-    ∙ ap (λ o. and_then o (λ d. cond (bytes_eq (take 3 (drop 6 bs)) cur) (and_then (amount_of (drop 9 bs)) (λ h. Some (record { date = d; currency = cur; hundredths = h }))) None)) e
-    ∙ cond-true (bytes_eq (take 3 (drop 6 bs)) cur) _ None f
+-- what is told once date, currency and amount are read
+pub dated_read : (cur bs : List ℕ) (d : Date) (n : ℕ) → 9 ≤ length bs → Some d ≡ date_of (take 6 bs) → bytes_eq (take 3 (drop 6 bs)) cur ≡ true → Some n ≡ amount_of (drop 9 bs) → Some (record { date = d; currency = cur; hundredths = n }) ≡ dated_of cur bs
+dated_read cur bs d n l e f a =
+    let money = λ (d : Date) (n : ℕ). Some (record { date = d; currency = cur; hundredths = n }) in
+    ap (λ o. and_then o (money d)) a
+    ∙ sym (cond-true (bytes_eq (take 3 (drop 6 bs)) cur) (and_then (amount_of (drop 9 bs)) (money d)) None f)
+    ∙ ap (λ o. and_then o (λ d. cond (bytes_eq (take 3 (drop 6 bs)) cur) (and_then (amount_of (drop 9 bs)) (money d)) None)) e
+    ∙ sym (cond-true (leb 9 (length bs)) _ None (le-leb _ _ l))
 
 -- the normal content tells the same
 pub dated_again : (cur bs : List ℕ) (m : Money) → dated_of cur bs ≡ Some m → dated_of cur (dated_normal bs) ≡ dated_of cur bs
@@ -123,9 +125,9 @@ dated_one_value cur c d m n e f p q =
     let x = dated_told cur c m e in
     let y = dated_told cur d n f in
     let a : amount_of (drop 9 c) ≡ amount_of (drop 9 d) =
-    cond-true (is_amount (drop 9 c)) (Some (hundredths (drop 9 c))) None x.amount
+    cond-true _ _ _ x.amount
     ∙ ap Some q
-    ∙ sym (cond-true (is_amount (drop 9 d)) (Some (hundredths (drop 9 d))) None y.amount) in
+    ∙ sym (cond-true _ _ _ y.amount) in
     dated_is cur c x.long ∙ (λ i. dated_by cur (p i) (a i)) ∙ sym (dated_is cur d y.long)
 
 -- ---- its bytes
@@ -158,5 +160,5 @@ dated_bytes cur bs m k e =
 pub part_told : (cur bs : List ℕ) (m : Money) → dated_of cur bs ≡ Some m → amount_part bs ≡ Some (normal (drop 9 bs))
 part_told cur bs m e =
     let p = dated_told cur bs m e in
-    cond-true (leb 9 (length bs)) (normal_of (drop 9 bs)) None (le-leb 9 (length bs) p.long)
-    ∙ cond-true (is_amount (drop 9 bs)) (Some (normal (drop 9 bs))) None p.amount
+    cond-true _ _ _ (le-leb _ _ p.long)
+    ∙ cond-true _ _ _ p.amount

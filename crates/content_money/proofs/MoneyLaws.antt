@@ -13,8 +13,8 @@ use Rattle.content_money.proofs.Dated.{dated_told, dated_again, front_again, amo
 -- accepted money is told
 pub money_dated : (cur bs : List ℕ) → is_some (money_of cur bs) ≡ true → (m : Money) × (dated_of cur bs ≡ Some m)
 money_dated cur bs h =
-    let t = told_some (money_of cur bs) h in
-    let a = after (dated_of cur bs) (λ m. cond (ltb 0 m.hundredths) (Some m) None) t.0 t.1 in
+    let t = told_some _ h in
+    let a = after _ _ _ t.1 in
     (a.0, a.1)
 
 again : (cur bs : List ℕ) → is_some (money_of cur bs) ≡ true → money_of cur (dated_normal bs) ≡ money_of cur bs

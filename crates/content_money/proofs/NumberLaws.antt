@@ -1,9 +1,8 @@
 -- Statement numbers: what is read, and their laws.
-use Rattle.std.proofs.Common.{◌≡◌, ℕ, ◌+◌, ◌-◌, ◌<◌, ◌≤◌, Bool, true, false, cond, ◌&&◌, eqb, ltb, List, [], ◌∷◌, ◌++◌, length, take, drop, is_some, Some, None, codes, decimal, sym, refl, ap, ◌∙◌, ⊎_elim, arith}
-use Rattle.std.specs.Str.{bytes_eq}
+use Rattle.std.proofs.Common.{ltb, ◌≡◌, ℕ, ◌+◌, ◌-◌, ◌<◌, ◌≤◌, true, false, cond, ◌&&◌, eqb, List, [], ◌∷◌, ◌++◌, length, take, drop, is_some, Some, None, codes, decimal, sym, refl, ap, ◌∙◌, ⊎_elim, arith}
 use Rattle.std.proofs.lemmas.Fmt.{decimal-digits_value}
 use Rattle.std.proofs.lemmas.Slice.Eq.{bytes_eq-Decides}
-use Rattle.std.proofs.lemmas.List.{take_rest, take_at, drop_at, take-append-drop, length-append, nil_from_length}
+use Rattle.std.proofs.lemmas.List.{take_at, drop_at, take-append-drop, length-append, nil_from_length}
 use Rattle.std.proofs.lemmas.Slice.{between_is}
 use Rattle.std.proofs.lemmas.Bool.{and_parts, or_cases, eqb-true, cond-true}
 use Rattle.std.proofs.lemmas.Bool.Decides.{nat_tests}
@@ -16,18 +15,7 @@ use Rattle.content_lines.specs.Formats as formats
 use Rattle.content_lines.specs.Formats.{tidy, Lawful}
 use Rattle.content_lines.proofs.Chosen.{passed, told_some}
 use Rattle.content_lines.proofs.Shapes.{every_append, digits_printable, laid_line, tidy_from}
-use Rattle.content_money.specs.Numbers.{digits, page, is_number, number_of_digits, is_page, statement_number_of, number_format}
-
--- ---- reading
-
--- the two parts as the code cuts them
-pub number_cut : (bs : List ℕ) (k : ℕ) → k ≡ place 47 bs → (take (k - 0) bs ≡ digits bs) × (take (length bs - k) (drop k bs) ≡ page bs)
-number_cut bs k e = (let f : k - 0 ≡ place 47 bs = omega arith in ap (λ n. take n bs) f, take_rest bs k ∙ ap (λ n. drop n bs) e)
-
-pub number_read : (bs : List ℕ) (n : ℕ) (b : Bool) → Some n ≡ number_of_digits (digits bs) → b ≡ is_page (page bs) → cond b (Some n) None ≡ statement_number_of bs
-number_read bs n b e p =
-    let q = passed (is_number (digits bs)) (Some (number (digits bs))) n (sym e) in
-    (λ i. cond (p i) (sym q.1 i) None) ∙ (λ i. cond (sym q.0 i && is_page (page bs)) (Some (number (digits bs))) None)
+use Rattle.content_money.specs.Numbers.{digits, page, is_number, is_page, statement_number_of, number_format}
 
 -- ---- the parts of an accepted number
 
@@ -98,9 +86,9 @@ accepted_told bs h =
 page_bytes : (bs : List ℕ) → is_page bs ≡ true → (every printable bs ≡ true) × (length bs ≤ 2)
 page_bytes bs h =
     ⊎_elim
-    (λ e. let n = nil_from_length bs (eqb-true (length bs) 0 e) in (ap (every printable) n, omega (arith, ap length n)))
+    (λ e. let n = nil_from_length bs (eqb-true _ _ e) in (ap (every printable) n, omega (arith, ap length n)))
     (λ e. let n = (bytes_eq-Decides bs (codes "/1")).0 e in (ap (every printable) n, omega (arith, ap length n)))
-    (or_cases (eqb (length bs) 0) (bytes_eq bs (codes "/1")) h)
+    (or_cases _ _ h)
 
 number_tidy : (bs : List ℕ) → is_some (statement_number_of bs) ≡ true → tidy bs ≡ true
 number_tidy bs h =
@@ -130,8 +118,5 @@ number_lawful =
 -- ---- writing
 
 -- the digits without zeros in front, as the code cuts them
-pub zeros_cut : (bs : List ℕ) (k z : ℕ) → k ≡ place 47 bs → k ≤ length bs → z ≤ length (take (k - 0) bs) → drop z (take (k - 0) bs) ≡ without_leading (take (k - 0) bs) → take (k - z) (drop z bs) ≡ without_leading (digits bs)
-zeros_cut bs k z e l m r =
-    let f : k - 0 ≡ k = omega arith in
-    let g : k - 0 ≡ place 47 bs = omega arith in
-    between_is bs z k ∙ ap (λ n. drop z (take n bs)) (sym f) ∙ r ∙ ap (λ n. without_leading (take n bs)) g
+pub zeros_cut : (bs : List ℕ) (k z : ℕ) → k ≡ place 47 bs → drop z (take k bs) ≡ without_leading (take k bs) → take (k - z) (drop z bs) ≡ without_leading (digits bs)
+zeros_cut bs k z e r = between_is bs z k ∙ r ∙ ap (λ n. without_leading (take n bs)) e

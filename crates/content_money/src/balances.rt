@@ -12,7 +12,7 @@ use contents::Date;
 use mt_text::Fault;
 
 // A balance of a currency on a day: credit is above zero, debit below.
-#[derive(Clone, Copy)]
+#[derive(Clone, Copy, PartialEq, Eq, Debug)]
 pub struct Balance {
     pub date: Date,
     pub currency: [u8; 3],
@@ -23,9 +23,9 @@ pub struct Balance {
 fn sign_of(mark: u8) -> Option<Sign>
     ensures { result ≡ mark_of mark }
 {
-    match mark as char {
-        'C' => Some(Sign::Plus),
-        'D' => Some(Sign::Minus),
+    match mark {
+        b'C' => Some(Sign::Plus),
+        b'D' => Some(Sign::Minus),
         _ => None,
     }
 }
@@ -34,11 +34,9 @@ fn sign_of(mark: u8) -> Option<Sign>
 pub fn read_balance(currency: [u8; 3], content: &[u8]) -> Option<Balance>
     ensures { result ≡ balance_of currency content.now }
 {
-    if content.is_empty() {
-        return None;
-    }
-    let sign = sign_of(content[0])?;
-    let money = read_dated(currency, &content[1..content.len()])?;
+    let (mark, dated) = content.split_first()?;
+    let sign = sign_of(*mark)?;
+    let money = read_dated(currency, dated)?;
     let hundredths = count(sign, money.hundredths);
     Some(Balance {
         date: money.date,
@@ -62,13 +60,9 @@ pub fn write_balance(currency: [u8; 3], content: &[u8], buffer: &mut [u8]) -> Re
     ensures buffer { buffer.new ≡ written (balance_format currency) content.now buffer.old }
     ensures laws { is_currency currency ≡ true → Lawful (balance_format currency) }
 {
-    let Some(balance) = read_balance(currency, content) else {
-        return Err(Fault::Content { at: 0 });
-    };
-    let dated = &content[1..content.len()];
-    let Some(amount) = normal_rest(dated) else {
-        return Err(Fault::Content { at: 0 });
-    };
+    let balance = read_balance(currency, content).ok_or(Fault::Content { at: 0 })?;
+    let dated = &content[1..];
+    let amount = normal_rest(dated).ok_or(Fault::Content { at: 0 })?;
     let mark = normal_mark(content[0], balance.hundredths);
-    put_parts(&[mark], &dated[0..9], amount, buffer)
+    put_parts(&[mark], &dated[..9], amount, buffer)
 }

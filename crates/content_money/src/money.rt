@@ -5,12 +5,13 @@ ghost use Rattle.mt_text.specs.Refusals.{told};
 ghost use Rattle.content_lines.specs.Formats.{Lawful, answer, written};
 ghost use Rattle.content_money.specs.Money.{is_currency, dated_of, money_of, amount_part, money_format};
 
-use content_lines::{is_same, put_parts};
+use content_lines::put_parts;
 use contents::{Date, normal_amount, read_amount, read_date};
 use mt_text::Fault;
 
-// An amount of a currency on a day.
-#[derive(Clone, Copy)]
+// An amount of a currency on a day. `Balance` has the same shape and is a struct of its own: a
+// definition in specs/ cannot name an alias of a generic one.
+#[derive(Clone, Copy, PartialEq, Eq, Debug)]
 pub struct Money {
     pub date: Date,
     pub currency: [u8; 3],
@@ -24,11 +25,11 @@ pub(crate) fn read_dated(currency: [u8; 3], content: &[u8]) -> Option<Money>
     if content.len() < 9 {
         return None;
     }
-    let date = read_date(&content[0..6])?;
-    if !is_same(&content[6..9], &currency) {
+    let date = read_date(&content[..6])?;
+    if &content[6..9] != currency.as_slice() {
         return None;
     }
-    let hundredths = read_amount(&content[9..content.len()])?;
+    let hundredths = read_amount(&content[9..])?;
     Some(Money {
         date,
         currency,
@@ -40,22 +41,14 @@ pub(crate) fn read_dated(currency: [u8; 3], content: &[u8]) -> Option<Money>
 pub fn read_money(currency: [u8; 3], content: &[u8]) -> Option<Money>
     ensures { result ≡ money_of currency content.now }
 {
-    let money = read_dated(currency, content)?;
-    if money.hundredths > 0 {
-        Some(money)
-    } else {
-        None
-    }
+    read_dated(currency, content).filter(|money| money.hundredths > 0)
 }
 
 // The normal form of the amount behind date and currency.
 pub(crate) fn normal_rest(content: &[u8]) -> Option<&[u8]>
     ensures { option_map (λ x. x.now) result ≡ amount_part content.now }
 {
-    if content.len() < 9 {
-        return None;
-    }
-    normal_amount(&content[9..content.len()])
+    normal_amount(content.get(9..)?)
 }
 
 // Writes the normal content at the front of the buffer and answers its length. Refuses by 9 at 0
@@ -65,11 +58,7 @@ pub fn write_money(currency: [u8; 3], content: &[u8], buffer: &mut [u8]) -> Resu
     ensures buffer { buffer.new ≡ written (money_format currency) content.now buffer.old }
     ensures laws { is_currency currency ≡ true → Lawful (money_format currency) }
 {
-    let Some(_) = read_money(currency, content) else {
-        return Err(Fault::Content { at: 0 });
-    };
-    let Some(amount) = normal_rest(content) else {
-        return Err(Fault::Content { at: 0 });
-    };
-    put_parts(&content[0..9], amount, b"", buffer)
+    read_money(currency, content).ok_or(Fault::Content { at: 0 })?;
+    let amount = normal_rest(content).ok_or(Fault::Content { at: 0 })?;
+    put_parts(&content[..9], amount, b"", buffer)
 }

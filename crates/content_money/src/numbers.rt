@@ -5,7 +5,7 @@ ghost use Rattle.mt_text.specs.Refusals.{told};
 ghost use Rattle.content_lines.specs.Formats.{Lawful, answer, written};
 ghost use Rattle.content_money.specs.Numbers.{number_of_digits, is_page, statement_number_of, number_format};
 
-use content_lines::{is_same, put_parts};
+use content_lines::put_parts;
 use contents::{leading_zeros, place_of, read_number};
 use mt_text::Fault;
 
@@ -21,22 +21,18 @@ fn digits_end(content: &[u8]) -> usize
 fn is_page(rest: &[u8]) -> bool
     ensures { result ≡ is_page rest.now }
 {
-    rest.is_empty() || is_same(rest, b"/1")
+    rest.is_empty() || matches!(rest, b"/1")
 }
 
 // The number of one to five digits, if it is above zero.
 fn read_digits(digits: &[u8]) -> Option<u32>
     ensures { result ≡ number_of_digits digits.now }
 {
-    if digits.is_empty() || digits.len() > 5 {
+    if !matches!(digits.len(), 1..=5) {
         return None;
     }
     let number = read_number(digits)?;
-    if number == 0 {
-        None
-    } else {
-        Some(number as u32)
-    }
+    (number > 0).then_some(number as u32)
 }
 
 // The statement number that the content tells, 1 to 99,999, if it is one.
@@ -44,12 +40,8 @@ pub fn read_statement_number(content: &[u8]) -> Option<u32>
     ensures { result ≡ statement_number_of content.now }
 {
     let end = digits_end(content);
-    let number = read_digits(&content[0..end])?;
-    if is_page(&content[end..content.len()]) {
-        Some(number)
-    } else {
-        None
-    }
+    let number = read_digits(&content[..end])?;
+    is_page(&content[end..]).then_some(number)
 }
 
 // Writes the normal content at the front of the buffer and answers its length. Refuses by 9 at 0
@@ -59,10 +51,8 @@ pub fn write_statement_number(content: &[u8], buffer: &mut [u8]) -> Result<usize
     ensures buffer { buffer.new ≡ written number_format content.now buffer.old }
     ensures laws { Lawful number_format }
 {
-    let Some(_) = read_statement_number(content) else {
-        return Err(Fault::Content { at: 0 });
-    };
+    read_statement_number(content).ok_or(Fault::Content { at: 0 })?;
     let end = digits_end(content);
-    let start = leading_zeros(&content[0..end]);
+    let start = leading_zeros(&content[..end]);
     put_parts(&content[start..end], b"/1", b"", buffer)
 }

@@ -18,7 +18,7 @@ pub(crate) fn count(sign: Sign, hundredths: u64) -> i64
 {
     match sign {
         Sign::Plus => hundredths as i64,
-        Sign::Minus => 0 - hundredths as i64,
+        Sign::Minus => -(hundredths as i64),
     }
 }
 
@@ -26,6 +26,5 @@ pub(crate) fn count(sign: Sign, hundredths: u64) -> i64
 pub fn read_signed(sign: Sign, text: &[u8]) -> Option<i64>
     ensures { result ≡ signed_of sign text.now }
 {
-    let hundredths = read_amount(text)?;
-    Some(count(sign, hundredths))
+    Some(count(sign, read_amount(text)?))
 }

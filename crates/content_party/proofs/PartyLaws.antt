@@ -6,15 +6,15 @@ use Rattle.std.proofs.lemmas.Bool.Decides.{nat_tests}
 use Rattle.mt_text.specs.Classes.{among, capital, alphanumeric, every, printable}
 use Rattle.contents.specs.Digits.{and_then, place}
 use Rattle.content_lines.specs.Formats.{party, begins, tidy, Lawful}
-use Rattle.content_lines.specs.Lines.{is_line, line_end, first_line, next_line, next_of, goes_on}
+use Rattle.content_lines.specs.Lines.{is_line, line_end, first_line, next_line, goes_on}
 use Rattle.content_lines.proofs.Chosen.{after, passed, told_some}
 use Rattle.content_lines.proofs.Places.{place_within, place_in, place_past, goes_on_parts, next_some}
 use Rattle.content_lines.proofs.Shapes.{every_append, capitals_printable, alphanumerics_printable, laid_line, laid_on, tidy_from, is_line_parts}
 use Rattle.content_party.specs.declared.parties.Places.{Places}
 use Rattle.content_party.specs.declared.parties.Places.TheVariants.{EightOrEleven, ElevenOnly}
 use Rattle.content_party.specs.declared.parties.Party.{Party}
-use Rattle.content_party.specs.declared.parties.Party.TheVariants.{Code, AccountAndCode}
-use Rattle.content_party.specs.Parties.{parts_of, code_told, places_fit, is_code, account_at, account_in, Parts, code, account_and_code, one_line, party_of, account_of, code_at, head_part, code_part, filling, party_format}
+use Rattle.content_party.specs.declared.parties.Part.{Part}
+use Rattle.content_party.specs.Parties.{parts_in, parts_of, places_fit, is_code, account_at, account_in, Parts, code, account_and_code, one_line, party_of, account_of, code_at, head_part, code_part, filling, party_format}
 
 -- ---- bank codes
 
@@ -25,13 +25,13 @@ record Codes (c : List ℕ) : Type 0 where
 
 code_parts : (places : Places) (c : List ℕ) → is_code places c ≡ true → (places_fit places (length c) ≡ true) × Codes c
 code_parts places c h =
-    let p = and_parts (places_fit places (length c)) (every capital (take 6 c) && every alphanumeric (drop 6 c)) h in
-    let q = and_parts (every capital (take 6 c)) (every alphanumeric (drop 6 c)) p.1 in
+    let p = and_parts _ _ h in
+    let q = and_parts _ _ p.1 in
     (p.0, record { long = by places p.0; front = q.0; back = q.1 })
   where
     by : (places : Places) → places_fit places (length c) ≡ true → (length c ≡ 8) ⊎ (length c ≡ 11)
-    by EightOrEleven k = ⊎_elim (λ e. inl (eqb-true (length c) 8 e)) (λ e. inr (eqb-true (length c) 11 e)) (or_cases (eqb (length c) 8) (eqb (length c) 11) k)
-    by ElevenOnly k = inr (eqb-true (length c) 11 k)
+    by EightOrEleven k = ⊎_elim (λ e. inl (eqb-true _ _ e)) (λ e. inr (eqb-true _ _ e)) (or_cases _ _ k)
+    by ElevenOnly k = inr (eqb-true _ _ k)
 
 fit_eleven : (places : Places) (n : ℕ) → n ≡ 11 → places_fit places n ≡ true
 fit_eleven EightOrEleven n e = ap (λ n. eqb n 8 || eqb n 11) e
@@ -57,7 +57,7 @@ filled places c h =
     let k = p.1 in
     ⊎_elim
     (λ e.
-    let f : filling c ≡ codes "XXX" = cond-true (eqb (length c) 8) (codes "XXX") [] (eq-eqb (length c) 8 e) in
+    let f : filling c ≡ codes "XXX" = cond-true (eqb (length c) 8) (codes "XXX") [] (eq-eqb _ _ e) in
     let n : length (c ++ codes "XXX") ≡ 11 = omega (arith, length-append c (codes "XXX")) in
     let t : take 6 (c ++ codes "XXX") ≡ take 6 c = take-append-le 6 c (codes "XXX") (omega arith) in
     let d : drop 6 (c ++ codes "XXX") ≡ drop 6 c ++ codes "XXX" = drop-append-le 6 c (codes "XXX") (omega arith) in
@@ -94,33 +94,33 @@ accepted_is : (places : Places) (bs : List ℕ) → is_some (party_of places bs)
 accepted_is places bs h =
     ⊎_elim
     (λ o.
-    let t = told_some (cond (is_code places bs) (Some (code bs 0)) None) (ap is_some (sym (cond-true (one_line bs) _ _ o)) ∙ h) in
-    inl (o, (passed (is_code places bs) (Some (code bs 0)) t.0 t.1).0))
+    let t = told_some _ (ap is_some (sym (cond-true _ _ _ o)) ∙ h) in
+    inl (o, (passed _ _ _ t.1).0))
     (λ o.
-    let t = told_some (and_then (next_of bs) (second places bs)) (ap is_some (sym (cond-false (one_line bs) _ _ o)) ∙ h) in
-    let n = after (next_of bs) (second places bs) t.0 t.1 in
+    let t = told_some _ (ap is_some (sym (cond-false _ _ _ o)) ∙ h) in
+    let n = after _ _ _ t.1 in
     let g = next_some bs n.0 (sym n.1) in
-    let k = passed (is_code places n.0) (and_then (account_in (first_line bs)) (λ a. Some (account_and_code a (account_at (first_line bs)) n.0 (line_end bs + 2)))) t.0 n.2 in
-    let a = after (account_in (first_line bs)) (λ a. Some (account_and_code a (account_at (first_line bs)) n.0 (line_end bs + 2))) t.0 k.1 in
+    let k = passed _ _ _ n.2 in
+    let a = after _ _ _ k.1 in
     inr (record { more = o; on = g.0; last = ap (is_code places) (sym g.1) ∙ k.0; account = a.0; is = a.1 }))
     (cases_Bool (one_line bs))
 
 one_told : (places : Places) (bs : List ℕ) → One places bs → party_of places bs ≡ Some (code bs 0)
-one_told places bs p = cond-true (one_line bs) _ _ p.0 ∙ cond-true (is_code places bs) (Some (code bs 0)) None p.1
+one_told places bs p = cond-true _ _ _ p.0 ∙ cond-true _ _ _ p.1
 
 two_told : (places : Places) (bs : List ℕ) (t : Two places bs) → party_of places bs ≡ Some (account_and_code t.account (account_at (first_line bs)) (next_line bs) (line_end bs + 2))
 two_told places bs t =
-    cond-false (one_line bs) _ _ t.more
-    ∙ ap (λ o. and_then o (second places bs)) (cond-true (goes_on bs) (Some (next_line bs)) None t.on)
-    ∙ cond-true (is_code places (next_line bs)) _ None t.last
+    cond-false _ _ _ t.more
+    ∙ ap (λ o. and_then o (second places bs)) (cond-true _ _ _ t.on)
+    ∙ cond-true _ _ _ t.last
     ∙ ap (λ o. and_then o (λ a. Some (account_and_code a (account_at (first_line bs)) (next_line bs) (line_end bs + 2)))) t.is
 
 -- its code is a code
 code_is : (places : Places) (bs : List ℕ) → One places bs ⊎ Two places bs → (is_code places (code_part bs) ≡ true) × (code_at bs ≤ length bs)
 code_is places bs w =
     ⊎_elim
-    (λ p. let z : code_at bs ≡ 0 = cond-true (one_line bs) 0 (line_end bs + 2) p.0 in (ap (λ n. is_code places (drop n bs)) z ∙ p.1, omega arith))
-    (λ t. let z : code_at bs ≡ line_end bs + 2 = cond-false (one_line bs) 0 (line_end bs + 2) t.more in (ap (λ n. is_code places (drop n bs)) z ∙ t.last, omega (arith, (goes_on_parts bs t.on).before)))
+    (λ p. let z : code_at bs ≡ 0 = cond-true _ _ _ p.0 in (ap (λ n. is_code places (drop n bs)) z ∙ p.1, omega arith))
+    (λ t. let z : code_at bs ≡ line_end bs + 2 = cond-false _ _ _ t.more in (ap (λ n. is_code places (drop n bs)) z ∙ t.last, omega (arith, (goes_on_parts bs t.on).before)))
     w
 
 -- ---- the normal content
@@ -130,7 +130,7 @@ module _ (places : Places) (bs : List ℕ) where
   one_again p =
       let z : code_part bs ≡ bs = ap (λ n. drop n bs) (cond-true (one_line bs) 0 (line_end bs + 2) p.0) in
       let f = filled places bs p.1 in
-      let e : line_end (bs ++ filling bs) ≡ length (bs ++ filling bs) = place_past 13 bs (filling bs) (eqb-true (line_end bs) (length bs) p.0) ∙ ap (λ n. length bs + n) f.no_end ∙ sym (length-append bs (filling bs)) in
+      let e : line_end (bs ++ filling bs) ≡ length (bs ++ filling bs) = place_past 13 bs (filling bs) (eqb-true _ _ p.0) ∙ ap (λ n. length bs + n) f.no_end ∙ sym (length-append bs (filling bs)) in
       let P : List ℕ → Type 0 = λ c. One places (bs ++ filling c) in
       subst P (sym z) (eq-eqb _ _ e, f.whole)
 
@@ -155,7 +155,7 @@ module _ (places : Places) (bs : List ℕ) where
 
   two_again : Two places bs → Two places (bs ++ filling (code_part bs))
   two_again t =
-      let z : code_part bs ≡ next_line bs = ap (λ n. drop n bs) (cond-false (one_line bs) 0 (line_end bs + 2) t.more) in
+      let z : code_part bs ≡ next_line bs = ap (λ n. drop n bs) (cond-false _ _ _ t.more) in
       let P : List ℕ → Type 0 = λ c. Two places (bs ++ filling c) in
       subst P (sym z) (two_more (filling (next_line bs)) t (filled places (next_line bs) t.last).whole)
 
@@ -271,33 +271,31 @@ party_lawful places =
 
 -- ---- reading and writing
 
--- a second line that may not stand there
-pub no_second : (places : Places) (bs : List ℕ) → (line_end bs ≡ length bs → ⊥) → None ≡ next_of bs → None ≡ party_of places bs
-no_second places bs o e = sym (cond-false (one_line bs) _ _ (ne_eqb (line_end bs) (length bs) o) ∙ ap (λ o. and_then o (second places bs)) (sym e))
-
 abbrev code_in : Parts → List ℕ
 code_in (code c at) = c
 code_in (account_and_code a a_at c c_at) = c
 
 -- the code that is handed out is the part behind the head
-pub code_handed : (places : Places) (bs : List ℕ) (p : Party) → parts_of (Some p) ≡ party_of places bs → (is_some (party_of places bs) ≡ true) × (code_told p ≡ code_part bs)
+pub code_handed : (places : Places) (bs : List ℕ) (p : Party) → parts_of (Some p) ≡ party_of places bs → (is_some (party_of places bs) ≡ true) × (p.code.bytes.now ≡ code_part bs)
 code_handed places bs p e =
     let h : is_some (party_of places bs) ≡ true = ap is_some (sym e) ∙ some_parts p in (
       h,
       ⊎_elim
           (λ o.
-          let z : code_part bs ≡ bs = ap (λ n. drop n bs) (cond-true (one_line bs) 0 (line_end bs + 2) o.0) in
+          let z : code_part bs ≡ bs = ap (λ n. drop n bs) (cond-true _ _ _ o.0) in
           by p (code bs 0) (e ∙ one_told places bs o) ∙ sym z)
           (λ t.
-          let z : code_part bs ≡ next_line bs = ap (λ n. drop n bs) (cond-false (one_line bs) 0 (line_end bs + 2) t.more) in
+          let z : code_part bs ≡ next_line bs = ap (λ n. drop n bs) (cond-false _ _ _ t.more) in
           by p (account_and_code t.account (account_at (first_line bs)) (next_line bs) (line_end bs + 2)) (e ∙ two_told places bs t) ∙ sym z)
           (accepted_is places bs h),
     )
   where
     some_parts : (p : Party) → is_some (parts_of (Some p)) ≡ true
-    some_parts (Code c at) = refl
-    some_parts (AccountAndCode a a_at c c_at) = refl
+    some_parts p = refl
 
-    by : (p : Party) (q : Parts) → parts_of (Some p) ≡ Some q → code_told p ≡ code_in q
-    by (Code c at) q e = let f : code c.now at ≡ q = cc in ap code_in f
-    by (AccountAndCode a a_at c c_at) q e = let f : account_and_code a.now a_at c.now c_at ≡ q = cc in ap code_in f
+    code_told : (a : Option Part) (c : Part) → c.bytes.now ≡ code_in (parts_in a c)
+    code_told None c = refl
+    code_told (Some a) c = refl
+
+    by : (p : Party) (q : Parts) → parts_of (Some p) ≡ Some q → p.code.bytes.now ≡ code_in q
+    by p q e = let f : parts_in p.account p.code ≡ q = cc in code_told p.account p.code ∙ ap code_in f

@@ -7,7 +7,7 @@ use Rattle.content_lines.specs.Lines.{is_line, line_end, first_line, next_of}
 use Rattle.content_party.specs.declared.parties.Places.{Places}
 use Rattle.content_party.specs.declared.parties.Places.TheVariants.{EightOrEleven, ElevenOnly}
 use Rattle.content_party.specs.declared.parties.Party.{Party}
-use Rattle.content_party.specs.declared.parties.Party.TheVariants.{Code, AccountAndCode}
+use Rattle.content_party.specs.declared.parties.Part.{Part}
 
 -- how many places a bank code may have
 abbrev pub places_fit : Places → ℕ → Bool
@@ -42,15 +42,13 @@ party_of places bs =
     (and_then (next_of bs) (λ c. cond (is_code places c) (and_then (account_in (first_line bs)) (λ a. Some (account_and_code a (account_at (first_line bs)) c (line_end bs + 2)))) None))
 
 -- what `read_party` tells, its parts by their bytes
-abbrev pub parts_of : Option Party → Option Parts
-parts_of (Some (Code c at)) = Some (code c.now at)
-parts_of (Some (AccountAndCode a a_at c c_at)) = Some (account_and_code a.now a_at c.now c_at)
-parts_of None = None
+abbrev pub parts_in : Option Part → Part → Parts
+parts_in None c = code c.bytes.now c.at
+parts_in (Some a) c = account_and_code a.bytes.now a.at c.bytes.now c.at
 
--- the bank code among them
-abbrev pub code_told : Party → List ℕ
-code_told (Code c at) = c.now
-code_told (AccountAndCode a a_at c c_at) = c.now
+abbrev pub parts_of : Option Party → Option Parts
+parts_of (Some p) = Some (parts_in p.account p.code)
+parts_of None = None
 
 -- the account that a party tells, if it has an account line
 abbrev pub account_of : Option Parts → Option (List ℕ)

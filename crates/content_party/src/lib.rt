@@ -3,4 +3,4 @@
 
 mod parties;
 
-pub use parties::{Party, Places, read_party, write_party};
+pub use parties::{Part, Party, Places, read_party, write_party};

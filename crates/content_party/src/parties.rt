@@ -1,9 +1,9 @@
 //! Parties, 52, 53, 57 and 58: [/[1!a/]34x CR LF]4!a2!a2!c[3!c].
 ghost use Rattle.std.specs.Prelude.{◌≡◌};
-ghost use Rattle.std.specs.Option.{option_map};
+ghost use Rattle.std.specs.Option.{IfSome, option_map};
 ghost use Rattle.mt_text.specs.Refusals.{told};
 ghost use Rattle.content_lines.specs.Formats.{Lawful, answer, written};
-ghost use Rattle.content_party.specs.Parties.{places_fit, is_code, account_at, account_in, party_of, parts_of, code_told, filling, party_format};
+ghost use Rattle.content_party.specs.Parties.{places_fit, is_code, account_at, account_in, party_of, parts_of, filling, party_format};
 
 use content_lines::{first_end, first_line, is_line, next_line, put_parts};
 use mt_text::{Class, Fault, all_of, byte_at, is_capital};
@@ -15,19 +15,18 @@ pub enum Places {
     ElevenOnly,
 }
 
-// The parts of a party, each with its place in the content.
+// A part of the content, and where it begins there.
 #[derive(Clone, Copy)]
-pub enum Party<'a> {
-    Code {
-        code: &'a [u8],
-        code_at: usize,
-    },
-    AccountAndCode {
-        account: &'a [u8],
-        account_at: usize,
-        code: &'a [u8],
-        code_at: usize,
-    },
+pub struct Part<'a> {
+    pub bytes: &'a [u8],
+    pub at: usize,
+}
+
+// The parts of a party: its account, which may be absent, and its bank code.
+#[derive(Clone, Copy)]
+pub struct Party<'a> {
+    pub account: Option<Part<'a>>,
+    pub code: Part<'a>,
 }
 
 fn is_length(places: Places, len: usize) -> bool
@@ -43,13 +42,9 @@ fn is_length(places: Places, len: usize) -> bool
 fn is_code(places: Places, code: &[u8]) -> bool
     ensures { result ≡ is_code places code.now }
 {
-    if !is_length(places, code.len()) {
-        return false;
-    }
-    if code.len() < 6 {
-        return false;
-    }
-    all_of(Class::Capital, &code[0..6]) && all_of(Class::Alphanumeric, &code[6..code.len()])
+    is_length(places, code.len())
+        && all_of(Class::Capital, &code[..6])
+        && all_of(Class::Alphanumeric, &code[6..])
 }
 
 // Where the account begins in its line: behind the slash, or behind a capital and its slash.
@@ -63,23 +58,17 @@ fn account_start(line: &[u8]) -> usize
     }
 }
 
-// The account of an account line.
-fn read_account(line: &[u8]) -> Option<&[u8]>
-    ensures { option_map (λ x. x.now) result ≡ account_in line.now }
+// The account of an account line, and where it begins there.
+fn read_account(line: &[u8]) -> Option<Part<'_>>
+    ensures bytes { option_map (λ x. x.bytes.now) result ≡ account_in line.now }
+    ensures place { IfSome result (λ x. x.at ≡ account_at line.now) }
 {
-    let start = account_start(line);
-    if byte_at(line, 0) != b'/' {
+    let at = account_start(line);
+    if byte_at(line, 0) != b'/' || at > line.len() {
         return None;
     }
-    if start > line.len() {
-        return None;
-    }
-    let account = &line[start..line.len()];
-    if is_line(34, account) {
-        Some(account)
-    } else {
-        None
-    }
+    let bytes = &line[at..];
+    is_line(34, bytes).then_some(Part { bytes, at })
 }
 
 // The parts of the content, if it is a party.
@@ -88,42 +77,24 @@ pub fn read_party(places: Places, content: &[u8]) -> Option<Party<'_>>
 {
     let end = first_end(content);
     if end == content.len() {
-        if !is_code(places, content) {
-            return None;
-        }
-        return Some(Party::Code {
-            code: content,
-            code_at: 0,
+        let code = Part {
+            bytes: content,
+            at: 0,
+        };
+        return is_code(places, content).then_some(Party {
+            account: None,
+            code,
         });
     }
-    let code = next_line(content)?;
-    if !is_code(places, code) {
+    let bytes = next_line(content)?;
+    if !is_code(places, bytes) {
         return None;
     }
-    let line = first_line(content);
-    let account = read_account(line)?;
-    let account_at = account_start(line);
-    Some(Party::AccountAndCode {
-        account,
-        account_at,
-        code,
-        code_at: end + 2,
+    let account = read_account(first_line(content))?;
+    Some(Party {
+        account: Some(account),
+        code: Part { bytes, at: end + 2 },
     })
-}
-
-// The bank code, which every party has.
-fn code_of(party: Party<'_>) -> &[u8]
-    ensures { result.now ≡ code_told party.entry }
-{
-    match party {
-        Party::Code { code, code_at: _ } => code,
-        Party::AccountAndCode {
-            account: _,
-            account_at: _,
-            code,
-            code_at: _,
-        } => code,
-    }
 }
 
 // What the bank code lacks of eleven places.
@@ -140,8 +111,6 @@ pub fn write_party(places: Places, content: &[u8], buffer: &mut [u8]) -> Result<
     ensures buffer { buffer.new ≡ written (party_format places) content.now buffer.old }
     ensures laws { Lawful (party_format places) }
 {
-    let Some(party) = read_party(places, content) else {
-        return Err(Fault::Content { at: 0 });
-    };
-    put_parts(content, missing_places(code_of(party)), b"", buffer)
+    let party = read_party(places, content).ok_or(Fault::Content { at: 0 })?;
+    put_parts(content, missing_places(party.code.bytes), b"", buffer)
 }

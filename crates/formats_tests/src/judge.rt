@@ -1,9 +1,7 @@
 //! What is asked of each content: whether its format accepts it, and what its normal content is.
 use content_answer::{is_related, read_answer, write_answer, write_related};
 use content_entry::{read_entry, write_entry};
-use content_lines::{
-    Words, is_customer, is_same, is_word, read_lines, write_customer, write_lines, write_word,
-};
+use content_lines::{Lines, Words, is_customer, is_word, write_customer, write_word};
 use content_money::{
     read_balance, read_money, read_statement_number, write_balance, write_money,
     write_statement_number,
@@ -14,7 +12,7 @@ use mt_text::Fault;
 // The formats of the tables.
 #[derive(Clone, Copy)]
 pub enum Kind {
-    Lines { count: usize, width: usize },
+    Lines(Lines),
     Word(Words),
     Money([u8; 3]),
     Customer,
@@ -29,7 +27,7 @@ pub enum Kind {
 // Whether the format accepts the content.
 pub fn is_accepted(kind: Kind, content: &[u8]) -> bool {
     match kind {
-        Kind::Lines { count, width } => read_lines(count, width, content).is_some(),
+        Kind::Lines(lines) => lines.read(content).is_some(),
         Kind::Word(words) => is_word(words, content),
         Kind::Money(currency) => read_money(currency, content).is_some(),
         Kind::Customer => is_customer(content),
@@ -45,7 +43,7 @@ pub fn is_accepted(kind: Kind, content: &[u8]) -> bool {
 // Writes the normal content.
 pub fn write_normal(kind: Kind, content: &[u8], buffer: &mut [u8]) -> Result<usize, Fault> {
     match kind {
-        Kind::Lines { count, width } => write_lines(count, width, content, buffer),
+        Kind::Lines(lines) => lines.write(content, buffer),
         Kind::Word(words) => write_word(words, content, buffer),
         Kind::Money(currency) => write_money(currency, content, buffer),
         Kind::Customer => write_customer(content, buffer),
@@ -68,7 +66,7 @@ pub fn all_judged(kind: Kind, expected: bool, list: &[u8]) -> bool {
             return false;
         }
         if *b == b'~' {
-            if is_accepted(kind, &content[0..len]) != expected {
+            if is_accepted(kind, &content[..len]) != expected {
                 return false;
             }
             len = 0;
@@ -81,7 +79,7 @@ pub fn all_judged(kind: Kind, expected: bool, list: &[u8]) -> bool {
             len += 1;
         }
     }
-    len <= 256 && is_accepted(kind, &content[0..len]) == expected
+    len <= 256 && is_accepted(kind, &content[..len]) == expected
 }
 
 // Whether the format writes this normal content, and refuses a buffer that is a byte too short.
@@ -90,11 +88,8 @@ pub fn is_written(kind: Kind, content: &[u8], normal: &[u8]) -> bool {
     let Ok(len) = write_normal(kind, content, &mut buffer) else {
         return false;
     };
-    if len > 256 || len == 0 || !is_same(&buffer[0..len], normal) {
+    if len > 256 || len == 0 || &buffer[..len] != normal {
         return false;
     }
-    match write_normal(kind, content, &mut buffer[0..len - 1]) {
-        Ok(_) => false,
-        Err(fault) => fault.number() == 14,
-    }
+    write_normal(kind, content, &mut buffer[..len - 1]).is_err_and(|fault| fault.number() == 14)
 }

@@ -5,8 +5,9 @@ mod tests {
     use crate::judge::*;
     use content_answer::{AnswerCode, read_answer};
     use content_entry::read_entry;
+    use content_lines::Lines;
     use content_money::{read_balance, read_money, read_statement_number};
-    use content_party::{Party, Places, read_party};
+    use content_party::{Places, read_party};
     use std::test::Fail;
 
     #[test]
@@ -46,10 +47,10 @@ mod tests {
         assert!(rt; is_written(Kind::Customer, b"/1\r\nNAME", b"/1\r\nNAME"));
         assert!(rt;
             is_written(
-                Kind::Lines {
+                Kind::Lines(Lines {
                     count: 4,
-                    width: 35,
-                },
+                    width: 35
+                }),
                 b"A\r\nB",
                 b"A\r\nB",
             )
@@ -80,24 +81,12 @@ mod tests {
 
     #[test]
     fn party_parts(rt: HostRuntime) -> Result<(), Fail> {
-        match read_party(Places::EightOrEleven, b"/D/1\r\nKOBSMK2X") {
-            Some(
-                Party::AccountAndCode {
-                    account,
-                    account_at,
-                    code,
-                    code_at,
-                },
-            ) => {
-                assert!(rt;
-                    account == b"1".as_slice()
-                        && account_at == 3
-                        && code == b"KOBSMK2X".as_slice()
-                        && code_at == 6
-                );
-                Ok(())
-            }
-            _ => Err(Fail::new("no account and code")),
-        }
+        let party = read_party(Places::EightOrEleven, b"/D/1\r\nKOBSMK2X").ok_or("no party")?;
+        let account = party.account.ok_or("no account")?;
+        assert_eq!(rt; account.bytes, b"1".as_slice());
+        assert_eq!(rt; account.at, 3);
+        assert_eq!(rt; party.code.bytes, b"KOBSMK2X".as_slice());
+        assert_eq!(rt; party.code.at, 6);
+        Ok(())
     }
 }

@@ -3,43 +3,43 @@
 #[cfg(test)]
 mod tests {
     use crate::judge::*;
-    use content_lines::Words;
+    use content_lines::{Lines, Words};
     use content_party::Places;
 
-    const X16: Kind = Kind::Lines {
+    const X16: Kind = Kind::Lines(Lines {
         count: 1,
         width: 16,
-    };
+    });
 
-    const X35: Kind = Kind::Lines {
+    const X35: Kind = Kind::Lines(Lines {
         count: 1,
         width: 35,
-    };
+    });
 
-    const X4_35: Kind = Kind::Lines {
+    const X4_35: Kind = Kind::Lines(Lines {
         count: 4,
         width: 35,
-    };
+    });
 
-    const X5_35: Kind = Kind::Lines {
+    const X5_35: Kind = Kind::Lines(Lines {
         count: 5,
         width: 35,
-    };
+    });
 
-    const X6_35: Kind = Kind::Lines {
+    const X6_35: Kind = Kind::Lines(Lines {
         count: 6,
         width: 35,
-    };
+    });
 
-    const X3_35: Kind = Kind::Lines {
+    const X3_35: Kind = Kind::Lines(Lines {
         count: 3,
         width: 35,
-    };
+    });
 
-    const X3_50: Kind = Kind::Lines {
+    const X3_50: Kind = Kind::Lines(Lines {
         count: 3,
         width: 50,
-    };
+    });
 
     const DENAR: Kind = Kind::Money(*b"MKD");
 

@@ -6,8 +6,8 @@ use Rattle.contents.proofs.AmountParts.{digits_below}
 use Rattle.content_lines.proofs.Chosen.{passed}
 use Rattle.content_money.proofs.numbers.read_digits.Goals as goal
 
-pub overflow_cast-result : goal.overflow_cast-result
-overflow_cast-result c =
+pub overflow_cast-number : goal.overflow_cast-number
+overflow_cast-number c =
     let ds = c.args.digits.now in
     let p = passed (every digit ds && leb (length ds) 19) (Some (number ds)) c.in_ok-number.number (sym c.in_ok-number.ensures) in
     let q = and_parts (every digit ds) (leb (length ds) 19) p.0 in
