@@ -1,66 +1,47 @@
 //! Field i of a text.
 ghost use Rattle.std.specs.Prelude.{◌≡◌};
 ghost use Rattle.content_party.specs.Parties.{parts_of};
-ghost use Rattle.reader.specs.Views.{sort_of, sort_told, view, views_told};
+ghost use Rattle.reader.specs.Views.{offset, parts_from, view, views_told};
 
 use crate::interface::Module;
 use crate::laid::LaidOut;
 use crate::rows::format_for;
 use crate::texts::read_text;
-use content_party::Party;
+use content_party::{Part, Party};
 use fields::Tag;
 use mt_text::Fault;
 
-// What kind of field it is: a party is handed out in its parts, each with its offset in the text.
-#[derive(Clone, Copy)]
-pub enum Kind<'a> {
-    Plain,
-    BankCode {
-        code: &'a [u8],
-        code_at: usize,
-    },
-    AccountAndCode {
-        account: &'a [u8],
-        account_at: usize,
-        code: &'a [u8],
-        code_at: usize,
-    },
-}
-
-// A field: its tag, its offset, and its content as a part of the text.
+// A field: its tag, its offset, its content as a part of the text, and where it is a party its parts,
+// each with its offset in the text.
 #[derive(Clone, Copy)]
 pub struct FieldView<'a> {
     pub tag: Tag,
     pub at: usize,
     pub content: &'a [u8],
     pub content_at: usize,
-    pub kind: Kind<'a>,
+    pub party: Option<Party<'a>>,
 }
 
-// The kind of a field whose content begins at an offset, from its parts as a party.
-fn kind_of<'a>(party: Option<Party<'a>>, from: usize) -> Kind<'a>
-    ensures { sort_told result ≡ sort_of from (parts_of party.entry) }
+// The part by its offset in the text, where the content begins at an offset.
+fn moved(part: Part<'_>, from: usize) -> Part<'_>
+    ensures bytes { result.bytes ≡ part.entry.bytes }
+    ensures at { result.at ≡ offset from part.entry.at }
 {
-    match party {
-        None => Kind::Plain,
-        Some(Party::Code { code, code_at }) => Kind::BankCode {
-            code,
-            code_at: from.saturating_add(code_at),
-        },
-        Some(
-            Party::AccountAndCode {
-                account,
-                account_at,
-                code,
-                code_at,
-            },
-        ) => Kind::AccountAndCode {
-            account,
-            account_at: from.saturating_add(account_at),
-            code,
-            code_at: from.saturating_add(code_at),
-        },
+    Part {
+        bytes: part.bytes,
+        at: from.saturating_add(part.at),
     }
+}
+
+// The party by its offsets in the text.
+fn in_text(party: Option<Party<'_>>, from: usize) -> Option<Party<'_>>
+    ensures { parts_of result ≡ parts_from from (parts_of party.entry) }
+{
+    let Party { account, code } = party?;
+    Some(Party {
+        account: account.map(|account| moved(account, from)),
+        code: moved(code, from),
+    })
 }
 
 // The field at a place of a sound text, counted from 0: none past the last, and the fault of a text
@@ -85,12 +66,12 @@ pub fn view_field<'a, M: Module>(
         return Ok(None);
     };
     let content = field.content(text);
-    let kind = kind_of(module.party(format, content), field.content_at);
+    let party = in_text(module.party(format, content), field.content_at);
     Ok(Some(FieldView {
         tag: field.tag,
         at: field.at,
         content,
         content_at: field.content_at,
-        kind,
+        party,
     }))
 }
