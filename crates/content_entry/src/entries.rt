@@ -27,13 +27,14 @@ fn is_month_day(content: &[u8]) -> bool
         || (content.len() >= 10 && read_month_day(&content[6..10]).is_some())
 }
 
-// How the mark counts; where it is an R, the byte behind it decides.
+// How the mark counts; where it is an R, the byte behind it decides. A rule of the project: marks are
+// read as characters and matched against literals.
 fn read_mark(first: u8, second: u8) -> Option<Sign>
     ensures { result ≡ sign_of first second }
 {
-    match (first, second) {
-        (b'C', _) | (b'R', b'D') => Some(Sign::Plus),
-        (b'D', _) | (b'R', b'C') => Some(Sign::Minus),
+    match (first as char, second as char) {
+        ('C', _) | ('R', 'D') => Some(Sign::Plus),
+        ('D', _) | ('R', 'C') => Some(Sign::Minus),
         _ => None,
     }
 }

@@ -1,5 +1,5 @@
 //! The first look at a text: how long it is, and that it holds no foreign byte.
-ghost use Rattle.std.specs.Prelude.{◌≡◌, not, slice_index, position};
+ghost use Rattle.std.specs.Prelude.{◌≡◌, slice_index};
 ghost use Rattle.mt_text.specs.Classes.{carried};
 ghost use Rattle.mt_text.specs.Refusals.{told};
 ghost use Rattle.mt_text.specs.Bytes.{checked};
@@ -24,13 +24,6 @@ fn is_carried(b: u8) -> bool
     is_printable(b) || matches!(b, b'\r' | b'\n' | b'{' | b'}')
 }
 
-// Where the first byte stands that no text may hold.
-fn foreign_at(text: &[u8]) -> Option<usize>
-    ensures { result ≡ position (λ b. not (carried b)) text.now }
-{
-    text.iter().position(|b| !is_carried(*b))
-}
-
 // Refuses a text that is empty or too long (cause 1), else at its first foreign byte (cause 2).
 pub fn check_bytes(text: &[u8]) -> Result<(), Fault>
     ensures { told result ≡ checked text.now }
@@ -38,8 +31,11 @@ pub fn check_bytes(text: &[u8]) -> Result<(), Fault>
     if text.is_empty() || text.len() > MAX_TEXT {
         return Err(Fault::Length { at: 0 });
     }
-    match foreign_at(text) {
-        Some(at) => Err(Fault::Byte { at }),
-        None => Ok(()),
+    // a rule of the project: the first look is a loop by index, which stops at the first foreign byte
+    for i in 0..text.len() {
+        if !is_carried(text[i]) {
+            return Err(Fault::Byte { at: i });
+        }
     }
+    Ok(())
 }

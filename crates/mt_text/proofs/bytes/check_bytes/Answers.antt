@@ -1,9 +1,12 @@
 use Rattle.std.proofs.Common.{rules}
-use Rattle.mt_text.proofs.Steps.{foreign_is_place}
+use Rattle.mt_text.proofs.Steps.{foreign_more, foreign_all}
 use Rattle.mt_text.proofs.bytes.check_bytes.Goals as goal
 
-pub returns-in-Some : goal.returns-in-Some
-returns-in-Some c = search (rules, foreign_is_place 0 c.args.text.now)
+pub returns-then-not-is_carried : goal.returns-then-not-is_carried
+returns-then-not-is_carried c = search (rules, foreign_more)
 
-pub returns-in-None : goal.returns-in-None
-returns-in-None c = search (rules, foreign_is_place 0 c.args.text.now)
+pub loop-i-preserved : goal.loop-i-preserved
+loop-i-preserved c = search (rules, foreign_more)
+
+pub returns : goal.returns
+returns c = search (rules, foreign_all)
