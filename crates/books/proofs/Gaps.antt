@@ -5,34 +5,23 @@ use Rattle.std.proofs.lemmas.List.Edits.{paste_more, drop-paste, take-paste}
 use Rattle.std.proofs.lemmas.List.{get_or-drop, length-drop, length-take-le, drop-take, take-take, drop-drop, take-append-le, drop-append-le}
 use Rattle.books.specs.declared.book.Entry.{Entry}
 use Rattle.books.specs.Keys.{alike}
-use Rattle.books.specs.Runs.{closed}
 use Rattle.books.specs.Lists.{place_of, without}
+
+-- the cells, the n that follow the gap moved one place down
+abbrev pub closed : {X : Type 0} → List X → ℕ → ℕ → List X
+closed cells gap n = paste cells gap (drop (gap + 1) cells) n
 
 right : {X : Type 0} (d s : List X) (at n : ℕ) → paste d at s n ≡ take at d ++ (take n s ++ drop (at + n) d)
 right d s at n = simp append_assoc
 
 module _ {X : Type 0} (xs : List X) (gap : ℕ) where
-  -- the next cell, read at j, moves down
-  pub closed_more : (ys : List X) (i : ℕ) {j : ℕ} (d : X) → gap + i + 1 < length xs → ys ≡ closed xs gap i → j ≡ gap + i + 1 → set ys (gap + i) (get_or ys j d) ≡ closed xs gap (i + 1)
-  unfolding closed
-  closed_more ys i {j} d h e ej =
-      let rest : i < length (drop (gap + 1) xs) = simp length-drop (omega arith) in
-      let le : i ≤ length (drop (gap + 1) xs) = omega arith in
-      let far : drop (gap + i) ys ≡ drop (gap + i) xs = ap (drop (gap + i)) e ∙ drop-paste xs gap (drop (gap + 1) xs) i (omega arith) le in
-      let n : gap + 1 + i ≡ gap + i + 1 = omega arith in
-      let there : get_or ys j d ≡ get_or (drop (gap + 1) xs) i d =
-      ap (λ m. get_or ys m d) ej ∙ sym (get_or-drop (gap + i) ys 1 d) ∙ ap (λ l. get_or l 1 d) far ∙ get_or-drop (gap + i) xs 1 d ∙ ap (λ m. get_or xs m d) (sym n) ∙ sym (get_or-drop (gap + 1) xs i d) in
-      ap (λ l. set l (gap + i) (get_or ys j d)) e ∙ ap (set (closed xs gap i) (gap + i)) there ∙ paste_more xs gap (drop (gap + 1) xs) i d (omega arith) rest
-
   -- what lies below the gap, and past what was moved, is as it was
   pub closed_before : (m n : ℕ) → m ≤ gap → gap ≤ length xs → take m (closed xs gap n) ≡ take m xs
-  unfolding closed
   closed_before m n h l =
       let e = length-take-le gap xs l in
       ap (take m) (right xs (drop (gap + 1) xs) gap n) ∙ take-append-le m (take gap xs) (take n (drop (gap + 1) xs) ++ drop (gap + n) xs) (omega arith) ∙ take-take m gap xs h
 
   pub closed_after : (m n : ℕ) → gap + n ≤ m → gap + n < length xs → drop m (closed xs gap n) ≡ drop m xs
-  unfolding closed
   closed_after m n h l =
       let f : (gap + n) + (m - (gap + n)) ≡ m = omega arith in
       let le : n ≤ length (drop (gap + 1) xs) = simp length-drop (omega arith) in
@@ -46,7 +35,6 @@ nest a b c = omega arith
 -- a row of len from `from` on, whose entry p is taken out
 pub closed_row : {X : Type 0} (xs : List X) (from p n len : ℕ) → p + n + 1 ≡ len → from + len ≤ length xs
     → take (len - 1) (drop from (closed xs (from + p) n)) ≡ take p (take len (drop from xs)) ++ drop (suc p) (take len (drop from xs))
-unfolding closed
 closed_row xs from p n len el h =
     let tail = drop (from + p + 1) xs in
     let z = drop from xs in
