@@ -9,7 +9,7 @@ use Rattle.books.specs.declared.calls.Call.TheVariants.{Put, Remove}
 use Rattle.books.specs.Keys.{alike}
 use Rattle.books.specs.Lists.{place_of, has, put_list, without, at}
 use Rattle.books.specs.Calls.{left, left_by, apart, AllApart}
-use Rattle.books.proofs.Packing.{alike_same}
+use Rattle.books.specs.KeyLaws.{alike_same}
 
 alike_flip : (xs ys : List ℕ) → alike xs ys ≡ alike ys xs
 alike_flip xs ys =
