@@ -1,6 +1,5 @@
 -- Every call keeps the keys of each account's entries different.
-use Rattle.std.proofs.Common.{◌≡◌, ℕ, suc, ◌+◌, ◌<◌, ◌≤◌, Bool, true, false, cond, not, ◌&&◌, ◌||◌, eqb, ltb, List, [], ◌∷◌, ◌++◌, length, get_or, drop, set, sym, refl, ap, ◌∙◌, inl, inr, arith}
-use Rattle.std.proofs.lemmas.List.{at_drop_more, at_drop_all}
+use Rattle.std.proofs.Common.{◌≡◌, ℕ, suc, Bool, true, false, cond, not, ◌&&◌, ◌||◌, eqb, ltb, List, [], ◌∷◌, ◌++◌, length, set, sym, refl, ap, ◌∙◌, inl, inr, arith}
 use Rattle.std.proofs.lemmas.Bool.{cases_Bool, and_parts, and_from, or_parts, or_from, lt-ltb, not-true, not_from_false}
 use Rattle.std.proofs.lemmas.Bool.Decides.{nat_tests}
 use Rattle.books.specs.declared.book.Entry.{Entry}
@@ -131,15 +130,3 @@ module _ {K R : Type 0} (says : K → List ℕ) where
   pub left_by_apart : (rooms : ℕ → ℕ) (cs : List (Call K R)) (lists : ℕ → List (Entry K R)) → AllApart says lists → AllApart says (left_by says rooms cs lists)
   left_by_apart rooms [] lists all = all
   left_by_apart rooms (c ∷ cs) lists all = left_by_apart rooms cs (left says rooms c lists) (left_apart rooms c lists all)
-
-  -- ---- the steps of a run
-
-  pub left_by_more : (rooms : ℕ → ℕ) (cs : List (Call K R)) (i : ℕ) (c : Call K R) (lists next : ℕ → List (Entry K R)) → i < length cs → c ≡ get_or cs i c → next ≡ left says rooms c lists
-      → left_by says rooms (drop (i + 1) cs) next ≡ left_by says rooms (drop i cs) lists
-  left_by_more rooms cs i c lists next h r e =
-      ap (left_by says rooms (drop (i + 1) cs)) e
-      ∙ ap (λ d. left_by says rooms (drop (i + 1) cs) (left says rooms d lists)) r
-      ∙ sym (at_drop_more (λ l. left_by says rooms l lists) cs i c h)
-
-  pub left_by_all : (rooms : ℕ → ℕ) (cs : List (Call K R)) (i : ℕ) (lists : ℕ → List (Entry K R)) → length cs ≤ i → left_by says rooms (drop i cs) lists ≡ lists
-  left_by_all rooms cs i lists h = at_drop_all (λ l. left_by says rooms l lists) cs i h

@@ -7,7 +7,7 @@ use Rattle.std.proofs.lemmas.List.{drop-take, take-take, drop-drop, get_or-set_s
 use Rattle.std.proofs.lemmas.Bool.{cases_eq, cases_lt, cases_order, cond-true, cond-false, lt-ltb, le-ltb, ltb-true, ltb-false, eq-eqb, ne_eqb}
 use Rattle.books.specs.declared.book.Entry.{Entry}
 use Rattle.mt_text.specs.Refusals.{refused}
-use Rattle.books.specs.Lists.{at, place_of, has, put_answer, put_list, without}
+use Rattle.books.specs.Lists.{at, has, put_answer, put_list, without}
 use Rattle.books.specs.Runs.{share_of, size_of, room_of, run}
 use Rattle.std.specs.List.{position, copy_within}
 use Rattle.books.proofs.Places.{keyed, sought_some, sought_none}

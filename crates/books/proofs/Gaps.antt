@@ -1,8 +1,8 @@
 -- A gap that is closed by moving what follows one place down.
-use Rattle.std.proofs.Common.{◌≡◌, ℕ, suc, ◌+◌, ◌-◌, ◌<◌, ◌≤◌, true, false, cond, List, [], ◌∷◌, ◌++◌, length, get_or, take, drop, set, sym, refl, ap, ◌∙◌, append_assoc, arith}
+use Rattle.std.proofs.Common.{◌≡◌, ℕ, suc, ◌+◌, ◌-◌, ◌<◌, ◌≤◌, true, false, cond, List, [], ◌∷◌, ◌++◌, length, take, drop, sym, refl, ap, ◌∙◌, append_assoc, arith}
 use lib.Seq.{paste}
-use Rattle.std.proofs.lemmas.List.Edits.{paste_more, drop-paste, take-paste}
-use Rattle.std.proofs.lemmas.List.{get_or-drop, length-drop, length-take-le, drop-take, take-take, drop-drop, take-append-le, drop-append-le}
+use Rattle.std.proofs.lemmas.List.Edits.{drop-paste, take-paste}
+use Rattle.std.proofs.lemmas.List.{length-drop, length-take-le, drop-take, take-take, drop-drop, take-append-le, drop-append-le}
 use Rattle.books.specs.declared.book.Entry.{Entry}
 use Rattle.books.specs.Keys.{alike}
 use Rattle.books.specs.Lists.{place_of, without}

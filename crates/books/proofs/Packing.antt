@@ -1,5 +1,5 @@
 -- What references say.
-use Rattle.std.specs.Prelude.{◌≡◌, ℕ, ◌-◌, ◌≤◌, ◌<◌, min, Bool, ◌&&◌, true, false, List, [], ◌∷◌, ◌++◌, length, take, replicate, Some, ◌==◌, ◌≢◌, refl}
+use Rattle.std.specs.Prelude.{◌≡◌, ℕ, ◌-◌, min, Bool, ◌&&◌, true, false, List, [], ◌∷◌, ◌++◌, length, take, replicate, Some, ◌==◌, refl}
 use Rattle.std.proofs.Common.{eqb, drop, sym, ap, ◌∙◌}
 use lib.Pointwise.{pointwise, bytes_decides}
 use Rattle.std.proofs.lemmas.List.{take_at, take_min, drop-replicate}
@@ -33,14 +33,14 @@ pub same_is : (a b : Reference) → (pointwise eqb a.places b.places && a.len ==
 same_is a b =
     agree _ _
     (λ t.
-        let p = and_parts (pointwise eqb a.places b.places) _ t in
-        let l = (bytes_decides a.places b.places).0 p.0 in
-        let n = eqb-true _ _ p.1 in
-        let e : a ≡ b = (λ i. record { places = l i; len = n i }) in
-        ap (λ r. alike (says_of a) (says_of r)) (sym e) ∙ alike_self (says_of a))
+    let p = and_parts (pointwise eqb a.places b.places) _ t in
+    let l = (bytes_decides a.places b.places).0 p.0 in
+    let n = eqb-true _ _ p.1 in
+    let e : a ≡ b = (λ i. record { places = l i; len = n i }) in
+    ap (λ r. alike (says_of a) (says_of r)) (sym e) ∙ alike_self (says_of a))
     (λ t.
-        let e = tells_apart a b (alike_same _ _ t) in
-        and_from _ _ ((bytes_decides a.places b.places).1 (ap (λ r. r.places) e)) (eq-eqb _ _ (ap (λ r. r.len) e)))
+    let e = tells_apart a b (alike_same _ _ t) in
+    and_from _ _ ((bytes_decides a.places b.places).1 (ap (λ r. r.places) e)) (eq-eqb _ _ (ap (λ r. r.len) e)))
   where
     agree : (s t : Bool) → (s ≡ true → t ≡ true) → (t ≡ true → s ≡ true) → s ≡ t
     agree true t f g = sym (f refl)

@@ -1,8 +1,7 @@
 -- References that say the same are equal, which the law of a key asks for.
-use Rattle.std.specs.Prelude.{◌≡◌, ℕ, true, List, [], ◌∷◌, ◌≢◌, ◌==◌, slice_index, ◌&&◌}
-use Rattle.std.proofs.Common.{sym, ap, ◌∙◌, inl, inr, refl, arith}
+use Rattle.std.specs.Prelude.{◌≡◌, ℕ, true, List, [], ◌∷◌, ◌≢◌, ◌==◌}
+use Rattle.std.proofs.Common.{sym, ap, ◌∙◌, inl, inr, refl}
 use Rattle.std.proofs.lemmas.Bool.{cases_Bool, and_parts, eqb-true, cond-true, cond-false}
-use Rattle.std.proofs.lemmas.Bool.Decides.{nat_tests}
 use Rattle.mt_text.specs.Classes.{every, printable}
 use Rattle.books.specs.declared.reference.Reference.{Reference}
 use Rattle.books.specs.Keys.{alike}

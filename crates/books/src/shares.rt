@@ -14,6 +14,8 @@ pub const MAX_ROOM: usize = 64;
 
 // The cells, of which account a has those from a times the share on, and how many entries each
 // account has there.
+// fixed memory: the cells are the caller's, lent for as long as the book lives, so what is counted
+// in them stands beside them
 #[derive(Drop)]
 pub struct Shares<'a, K, R> {
     cells: &'a mut [Entry<K, R>],

@@ -1,4 +1,4 @@
-use Rattle.std.proofs.Common.{◌≡◌, min, length, ap, ◌∙◌, arith, rules}
+use Rattle.std.proofs.Common.{◌≡◌, min, length, ap, ◌∙◌, rules}
 use Rattle.mt_text.specs.Lent.{fitted, overwritten}
 use Rattle.books.proofs.Packing.{spelled_cut}
 use Rattle.books.proofs.reference.Reference.write.Goals as goal

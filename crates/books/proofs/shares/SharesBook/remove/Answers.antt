@@ -1,6 +1,5 @@
-use Rattle.std.proofs.Common.{◌≡◌, ◌-◌, length, set, ap, ◌∙◌, arith, rules}
+use Rattle.std.proofs.Common.{◌≡◌, length, ap, ◌∙◌, rules}
 use Rattle.std.specs.List.{position}
-use Rattle.books.specs.Runs.{run}
 use Rattle.books.proofs.Places.{keyed}
 use Rattle.books.proofs.Changes.{remove_has, remove_lacks}
 use Rattle.books.proofs.shares.SharesBook.remove.Goals as goal
