@@ -1,10 +1,11 @@
 -- What a change within one account's run leaves of each run.
-use Rattle.std.proofs.Common.{◌≡◌, ℕ, suc, ◌+◌, ◌-◌, ◌*◌, ◌/◌, ◌%◌, ◌<◌, ◌≤◌, min, true, false, ltb, List, [], ◌∷◌, ◌++◌, length, get_or, take, drop, set, Some, None, Ok, sym, ap, ◌∙◌, inl, inr, add-mul, arith}
+use Rattle.std.proofs.Common.{◌≡◌, ℕ, ◌+◌, ◌-◌, ◌*◌, ◌<◌, ◌≤◌, min, true, false, ltb, List, length, get_or, take, drop, set, Some, None, Ok, sym, ap, ◌∙◌, inl, inr, arith}
+use Rattle.std.proofs.lemmas.Bool.Decides.{nat_tests}
+use Rattle.std.proofs.lemmas.Grind.{common_steps}
 use mathlib.Core.Path.{fun_ext}
-use Rattle.std.proofs.lemmas.Nat.{mul-le, div-add-mod'}
 use lib.Seq.{take-set-lt}
-use Rattle.std.proofs.lemmas.List.{drop-take, take-take, drop-drop, get_or-set_same, get_or-set_other, set-get_or, length-set, length-take, length-drop, take-set-le, drop-set-lt, drop-set-add, take_more_set}
-use Rattle.std.proofs.lemmas.Bool.{cases_eq, cases_lt, cases_order, cond-true, cond-false, lt-ltb, le-ltb, ltb-true, ltb-false, eq-eqb, ne_eqb}
+use Rattle.std.proofs.lemmas.List.{drop-take, take-take, drop-drop, set-get_or, length-set, length-drop, take-set-le, drop-set-lt, drop-set-add, take_more_set}
+use Rattle.std.proofs.lemmas.Bool.{cases_order, cond-true, cond-false, lt-ltb, ltb-true, ltb-false}
 use Rattle.books.specs.declared.book.Entry.{Entry}
 use Rattle.mt_text.specs.Refusals.{refused}
 use Rattle.books.specs.Lists.{at, has, put_answer, put_list, without}
@@ -16,28 +17,27 @@ use Rattle.books.proofs.Gaps.{closed, closed_before, closed_after, closed_row, w
 
 -- each account's run lies within the cells
 pub within : (n a : ℕ) → a < 8 → a * share_of n + share_of n ≤ n
-within n a lt =
-    let m : (a + 1) * share_of n ≤ 8 * share_of n = mul-le (a + 1) (share_of n) 8 (share_of n) (omega arith) (omega arith) in
-    let e : (a + 1) * share_of n ≡ a * share_of n + 1 * share_of n = add-mul a 1 (share_of n) in
-    let d : n / 8 * 8 + n % 8 ≡ n = div-add-mod' n 8 in
-    omega arith
+within n a lt = grind (arith, common_steps)
 
 -- an earlier account's run ends where a later one begins, or before
 pub apart : (s a b : ℕ) → b < a → b * s + s ≤ a * s
-apart s a b lt =
-    let m : (b + 1) * s ≤ a * s = mul-le (b + 1) s a s (omega arith) (omega arith) in
-    let e : (b + 1) * s ≡ b * s + 1 * s = add-mul b 1 s in
-    omega arith
+apart s a b lt = grind (arith, common_steps)
 
 module _ {X : Type 0} (xs ys : List X) where
   row_before : (from len lim : ℕ) → from + len ≤ lim → take lim ys ≡ take lim xs → take len (drop from ys) ≡ take len (drop from xs)
   row_before from len lim h e =
-      sym (drop-take from len ys) ∙ ap (drop from) (sym (take-take (from + len) lim ys h) ∙ ap (take (from + len)) e ∙ take-take (from + len) lim xs h) ∙ drop-take from len xs
+      let t = drop-take from len ys in
+      let u = drop-take from len xs in
+      let v = take-take (from + len) lim ys h in
+      let w = take-take (from + len) lim xs h in
+      cc
 
   row_after : (from len lim : ℕ) → lim ≤ from → drop lim ys ≡ drop lim xs → take len (drop from ys) ≡ take len (drop from xs)
   row_after from len lim h e =
       let f : lim + (from - lim) ≡ from = omega arith in
-      ap (take len) (ap (λ n. drop n ys) (sym f) ∙ sym (drop-drop (from - lim) lim ys) ∙ ap (drop (from - lim)) e ∙ drop-drop (from - lim) lim xs ∙ ap (λ n. drop n xs) f)
+      let t = drop-drop (from - lim) lim ys in
+      let u = drop-drop (from - lim) lim xs in
+      cc
 
   -- what was written lies within the run of account a, whose list is now es
   module _ (lens : List ℕ) (a m : ℕ) (es : List X) (eight : length lens ≡ 8) (lt : a < 8) (same : length ys ≡ length xs)
@@ -45,11 +45,7 @@ module _ {X : Type 0} (xs ys : List X) where
       (after : drop (a * share_of (length xs) + share_of (length xs)) ys ≡ drop (a * share_of (length xs) + share_of (length xs)) xs)
       (own : take (min m (share_of (length xs))) (drop (a * share_of (length xs)) ys) ≡ es) where
     at_own : run ys (set lens a m) a ≡ es
-    at_own =
-        cond-true _ _ _ (lt-ltb a 8 lt)
-        ∙ ap (λ n. take (min n (share_of (length ys))) (drop (a * share_of (length ys)) ys)) (get_or-set_same lens a m 0 (omega arith))
-        ∙ ap (λ n. take (min m (share_of n)) (drop (a * share_of n) ys)) same
-        ∙ own
+    at_own = grind (arith, common_steps)
 
     at_other : (b : ℕ) → b < 8 → (b ≡ a → ⊥) → run ys (set lens a m) b ≡ run xs lens b
     at_other b lb ne =
@@ -64,43 +60,26 @@ module _ {X : Type 0} (xs ys : List X) where
             | inr h ↦ let p = apart s b a h in row_after (b * s) len (a * s + s) (omega arith) after
           ]
         ] in
-        cond-true _ _ _ (lt-ltb b 8 lb)
-        ∙ ap (λ n. take (min n (share_of (length ys))) (drop (b * share_of (length ys)) ys)) (get_or-set_other lens a b m 0 ne)
-        ∙ ap (λ n. take (size_of n lens b) (drop (b * share_of n) ys)) same
-        ∙ moved
-        ∙ sym (cond-true _ _ _ (lt-ltb b 8 lb))
+        grind (arith, common_steps, nat_tests)
 
     at_each : (b : ℕ) → run ys (set lens a m) b ≡ at a es (run xs lens) b
-    at_each b =
-        elim (cases_eq b a) [
-          | inl e ↦ ap (run ys (set lens a m)) e ∙ at_own ∙ sym (cond-true _ _ _ (eq-eqb b a e))
-          | inr ne ↦ elim (cases_lt b 8) [
-            | inl lb ↦ at_other b lb ne ∙ sym (cond-false _ _ _ (ne_eqb b a ne))
-            | inr ge ↦ cond-false _ _ _ (le-ltb b 8 ge) ∙ sym (cond-false _ _ _ (ne_eqb b a ne) ∙ cond-false _ _ _ (le-ltb b 8 ge))
-          ]
-        ]
+    at_each b = grind (arith, common_steps, nat_tests, at_own, at_other)
 
     pub run_changed : run ys (set lens a m) ≡ at a es (run xs lens)
     run_changed = fun_ext at_each
 
 at_same : {X : Type 0} (a : ℕ) (f : ℕ → X) → f ≡ at a (f a) f
-at_same a f =
-    fun_ext (λ b. elim (cases_eq b a) [
-      | inl e ↦ ap f e ∙ sym (cond-true _ _ _ (eq-eqb b a e))
-      | inr ne ↦ sym (cond-false _ _ _ (ne_eqb b a ne))
-    ])
+at_same a f = grind (arith, common_steps)
 
 module _ {K R : Type 0} (says : K → List ℕ) (xs : List (Entry K R)) (lens : List ℕ) (a len : ℕ) (k : K) (el : len ≡ size_of (length xs) lens a) (eight : length lens ≡ 8) (lt : a < 8) where
   is_row : run xs lens a ≡ take (len) (drop (a * share_of (length xs)) xs)
-  is_row = cond-true _ _ _ (lt-ltb a 8 lt) ∙ ap (λ n. take n (drop (a * share_of (length xs)) xs)) (sym el)
+  is_row = grind (arith, common_steps)
 
   row_length : length (run xs lens a) ≡ len
-  row_length =
-      let w = within (length xs) a lt in
-      ap length is_row ∙ simp (length-take, length-drop) (omega arith)
+  row_length = grind (arith, common_steps)
 
   is_room : room_of (length xs) a ≡ share_of (length xs)
-  is_room = cond-true _ _ _ (lt-ltb a 8 lt)
+  is_room = grind (arith, common_steps)
 
   -- a put of a key that the account has
   pub put_has : (r : R) (p : ℕ) {i : ℕ} → i ≡ a * share_of (length xs) + p → Some p ≡ position (keyed says k) (run xs lens a)
@@ -111,9 +90,7 @@ module _ {K R : Type 0} (says : K → List ℕ) (xs : List (Entry K R)) (lens : 
       let s = share_of (length xs) in
       let hit = sought_some says (run xs lens a) k p there in
       let h : p < len = omega (arith, row_length, ltb-true _ _ hit.0) in
-      let own : take (min (get_or lens a 0) s) (drop (a * s) (set xs (a * s + p) v)) ≡ put_list says (room_of (length xs) a) (run xs lens a) k r =
-      ap (λ n. take n (drop (a * s) (set xs (a * s + p) v))) (sym el) ∙ ap (take len) (drop-set-add (a * s) xs p v) ∙ take-set-lt len (drop (a * s) xs) p v h ∙ ap (λ l. set l p v) (sym is_row)
-      ∙ ap (λ q. set (run xs lens a) q v) hit.1 ∙ sym (cond-true _ _ _ hit.0) in (
+      let own : take (min (get_or lens a 0) s) (drop (a * s) (set xs (a * s + p) v)) ≡ put_list says (room_of (length xs) a) (run xs lens a) k r = grind (arith, common_steps, nat_tests, is_row, drop-set-add, take-set-lt) in (
         sym (cond-true _ _ _ hit.0),
         ap (λ j. run (set xs j v) lens) ei ∙ ap (run (set xs (a * s + p) v)) (sym (set-get_or lens a 0))
             ∙ run_changed xs (set xs (a * s + p) v) lens a (get_or lens a 0) _ eight lt (length-set xs (a * s + p) v) (take-set-le (a * s) xs (a * s + p) v (omega arith)) (drop-set-lt (a * s + s) xs (a * s + p) v (omega arith)) own,
@@ -133,9 +110,7 @@ module _ {K R : Type 0} (says : K → List ℕ) (xs : List (Entry K R)) (lens : 
       let fits : ltb (length (run xs lens a)) (room_of (length xs) a) ≡ true = lt-ltb _ _ (omega arith) in
       let deep : len < length (drop (a * s) xs) = simp length-drop (omega arith) in
       let low : min (len + 1) s ≡ len + 1 = omega arith in
-      let own : take (min (len + 1) s) (drop (a * s) (set xs (a * s + len) v)) ≡ put_list says (room_of (length xs) a) (run xs lens a) k r =
-      ap (λ n. take n (drop (a * s) (set xs (a * s + len) v))) low ∙ ap (take (len + 1)) (drop-set-add (a * s) xs len v) ∙ take_more_set (drop (a * s) xs) len v deep ∙ ap (λ l. l ++ v ∷ []) (sym is_row)
-      ∙ sym (cond-false _ _ _ lacks ∙ cond-true _ _ _ fits) in (
+      let own : take (min (len + 1) s) (drop (a * s) (set xs (a * s + len) v)) ≡ put_list says (room_of (length xs) a) (run xs lens a) k r = grind (arith, common_steps, nat_tests, is_row, drop-set-add, take_more_set) in (
         sym (cond-false _ _ _ lacks ∙ cond-true _ _ _ fits),
         ap (λ j. run (set xs j v) (set lens a (len + 1))) ei
             ∙ run_changed xs (set xs (a * s + len) v) lens a (len + 1) _ eight lt (length-set xs (a * s + len) v) (take-set-le (a * s) xs (a * s + len) v (omega arith)) (drop-set-lt (a * s + s) xs (a * s + len) v (omega arith)) own,
@@ -149,11 +124,8 @@ module _ {K R : Type 0} (says : K → List ℕ) (xs : List (Entry K R)) (lens : 
       let l = row_length in
       let ir = is_room in
       let lacks = sought_none says (run xs lens a) k none in
-      let tight : ltb (length (run xs lens a)) (room_of (length xs) a) ≡ false = le-ltb _ _ (omega arith) in
-      let kept : put_list says (room_of (length xs) a) (run xs lens a) k r ≡ run xs lens a = cond-false _ _ _ lacks ∙ cond-false _ _ _ tight in (
-        sym (cond-false _ _ _ lacks ∙ cond-false _ _ _ tight),
-        at_same a (run xs lens) ∙ ap (λ es. at a es (run xs lens)) (sym kept),
-      )
+      let kept : put_list says (room_of (length xs) a) (run xs lens a) k r ≡ run xs lens a = grind (arith, common_steps, nat_tests) in
+      (grind (arith, common_steps, nat_tests), at_same a (run xs lens) ∙ ap (λ es. at a es (run xs lens)) (sym kept))
 
   -- a removal of a key that the account has
   pub remove_has : (p from : ℕ) {ys : List (Entry K R)} → ys ≡ copy_within xs (from + p + 1) (from + len) (from + p) → from ≡ a * share_of (length xs) → Some p ≡ position (keyed says k) (run xs lens a)
@@ -167,11 +139,7 @@ module _ {K R : Type 0} (says : K → List ℕ) (xs : List (Entry K R)) (lens : 
       let hit = sought_some says (run xs lens a) k p there in
       let h : p < len = omega (arith, ltb-true _ _ hit.0) in
       let low : min (len - 1) s ≡ len - 1 = omega arith in
-      let own : take (min (len - 1) s) (drop (a * s) (closed xs (a * s + p) n)) ≡ without says (run xs lens a) k =
-      ap (λ m. take m (drop (a * s) (closed xs (a * s + p) n))) low ∙ closed_row xs (a * s) p n len (omega arith) (omega arith)
-      ∙ ap (λ r. take p r ++ drop (suc p) r) (sym is_row)
-      ∙ ap (λ q. take q (run xs lens a) ++ drop (suc q) (run xs lens a)) hit.1
-      ∙ sym (without_at says (run xs lens a) k (omega arith)) in
+      let own : take (min (len - 1) s) (drop (a * s) (closed xs (a * s + p) n)) ≡ without says (run xs lens a) k = grind (arith, common_steps, nat_tests, is_row, closed_row, without_at) in
       let long : length (closed xs (a * s + p) n) ≡ length xs = length-paste xs (a * s + p) (drop (a * s + p + 1) xs) n (omega arith) (simp length-drop (omega arith)) in (
         sym hit.0,
         ap (λ l. run l (set lens a (len - 1))) moved

@@ -13,6 +13,18 @@ pub alike_self : (xs : List ℕ) → alike xs xs ≡ true
 alike_self [] = refl
 alike_self (x ∷ xs) = and_from (x == x) (alike xs xs) (eq-eqb x x refl) (alike_self xs)
 
+-- tests that hold together are one
+agree : (s t : Bool) → (s ≡ true → t ≡ true) → (t ≡ true → s ≡ true) → s ≡ t
+agree true t f g = sym (f refl)
+agree false true f g = g refl
+agree false false f g = refl
+
+pub alike_flip : (xs ys : List ℕ) → alike xs ys ≡ alike ys xs
+alike_flip xs ys = agree _ _ (back xs ys) (back ys xs)
+  where
+    back : (xs ys : List ℕ) → alike xs ys ≡ true → alike ys xs ≡ true
+    back xs ys h = ap (λ l. alike l xs) (sym (alike_same xs ys h)) ∙ alike_self xs
+
 module _ (bs : List ℕ) (h : is_reference bs ≡ true) where
   pub spelled_kept : spelled (kept bs) ≡ bs
   unfolding spelled kept
@@ -41,11 +53,6 @@ same_is a b =
     (λ t.
     let e = tells_apart a b (alike_same _ _ t) in
     and_from _ _ ((bytes_decides a.places b.places).1 (ap (λ r. r.places) e)) (eq-eqb _ _ (ap (λ r. r.len) e)))
-  where
-    agree : (s t : Bool) → (s ≡ true → t ≡ true) → (t ≡ true → s ≡ true) → s ≡ t
-    agree true t f g = sym (f refl)
-    agree false true f g = g refl
-    agree false false f g = refl
 
 -- ---- references made, and given back
 

@@ -3,6 +3,7 @@ use Rattle.std.proofs.Common.{◌≡◌, ℕ, suc, ◌+◌, Bool, true, false, c
 use Rattle.std.specs.List.{find, position}
 use Rattle.std.specs.Option.{option_map}
 use Rattle.std.proofs.lemmas.List.Recursion.{is_position_or_len}
+use Rattle.std.proofs.lemmas.Grind.{common_steps}
 use Rattle.books.specs.declared.book.Entry.{Entry}
 use Rattle.books.specs.Keys.{alike}
 use Rattle.books.specs.Lists.{place_of, found, has}
@@ -26,11 +27,7 @@ module _ {K R : Type 0} (says : K → List ℕ) where
   -- the record under a key is that of the first entry that has it
   pub found_is : (es : List (Entry K R)) (k : K) → found says es k ≡ option_map (λ e. e.record) (find (keyed k) es)
   found_is [] k = refl
-  found_is (e ∷ es) k =
-      elim (keyed k e) as (λ t. cond t (Some e.record) (found says es k) ≡ option_map (λ e. e.record) (cond t (Some e) (find (keyed k) es))) [
-        | true ↦ refl
-        | false ↦ found_is es k
-      ]
+  found_is (e ∷ es) k = let ih = found_is es k in grind (arith, common_steps)
 
   -- what a search answers, in the words of the list
   answer_is : (es : List (Entry K R)) (k : K) → position (keyed k) es ≡ cond (has says es k) (Some (place_of says es k)) None
