@@ -1,17 +1,14 @@
 -- The first 10,001 bytes of a text.
-use Rattle.std.proofs.Common.{◌≡◌, ℕ, ◌<◌, true, ◌||◌, eqb, ltb, List, length, take, sym, ap, ◌∙◌, ⊎_elim, arith}
+use Rattle.std.proofs.Common.{◌≡◌, ℕ, ◌<◌, List, length, take, sym, ap, ◌∙◌, ⊎_elim, arith}
 use Rattle.std.proofs.lemmas.List.{take_all, length-take-le}
-use Rattle.std.proofs.lemmas.Bool.{cases_lt, cond-true}
+use Rattle.std.proofs.lemmas.Bool.{cases_lt}
 use Rattle.std.proofs.lemmas.Bool.Decides.{nat_tests}
 use Rattle.mt_text.specs.Refusals.{refused_at}
-use Rattle.mt_text.specs.Bytes.{foreign_from}
-use Rattle.layout.specs.Walk.{heed, walked, laid_out}
+use Rattle.layout.specs.Walk.{laid_out}
 
 -- what is longer than 10,000 bytes is refused for its length
 too_long : (bs : List ℕ) → 10000 < length bs → laid_out bs ≡ refused_at 1 0
-too_long bs h =
-    let f : (eqb (length bs) 0 || ltb 10000 (length bs)) ≡ true = grind (arith, nat_tests) in
-    ap (λ c. heed c (λ _. walked bs)) (cond-true (eqb (length bs) 0 || ltb 10000 (length bs)) (refused_at 1 0) (foreign_from 0 bs) f)
+too_long bs h = grind (arith, nat_tests)
 
 -- so the front of a text tells how the text is laid out
 pub front_tells : (text : List ℕ) → laid_out (take 10001 text) ≡ laid_out text
