@@ -5,9 +5,10 @@
 mod line;
 
 use contents::{MAX_AMOUNT, write_normal_amount};
-use line::Line;
+use fronts::Front;
+use line::{KEPT, amount};
 use std::io;
-use std::io::{BufWriter, Read, Write};
+use std::io::{BufReader, BufWriter, Read, Write};
 
 // How many lines were accepted and refused so far.
 #[derive(Drop)]
@@ -18,14 +19,14 @@ struct Tally {
 
 // Answers one line.
 fn answer<W: Write + Drop>(
-    line: &Line,
+    line: &Front<KEPT>,
     tally: &mut Tally,
     out: &mut BufWriter<W>,
 ) -> io::Result<()> {
     let mut normal = [0u8; MAX_AMOUNT];
     match (
-        line.amount(),
-        write_normal_amount(line.front(), &mut normal),
+        amount(line),
+        write_normal_amount(line.as_slice(), &mut normal),
     ) {
         (Some(hundredths), Ok(len)) => {
             tally.accepted = tally.accepted.saturating_add(1);
@@ -42,39 +43,22 @@ fn answer<W: Write + Drop>(
     }
 }
 
-// Takes in a part of the input, and answers each line that ends in it.
-fn take_in<W: Write + Drop>(
-    part: &[u8],
-    line: &mut Line,
-    tally: &mut Tally,
-    out: &mut BufWriter<W>,
-) -> io::Result<()> {
-    for b in part {
-        if *b == b'\n' {
-            answer(line, tally, out)?;
-            *line = Line::new();
-        } else {
-            line.push(*b);
-        }
-    }
-    Ok(())
-}
-
 fn main(rt: HostRuntime) -> io::Result<()> {
-    let mut input = rt.stdin();
+    let input = BufReader::new(rt.alloc(), rt.stdin())?;
     let mut out = BufWriter::new(rt.alloc(), rt.stdout())?;
     let mut tally = Tally {
         accepted: 0,
         refused: 0,
     };
-    let mut line = Line::new();
-    let mut chunk = [0u8; 4096];
-    for _ in 0..u64::MAX {
-        let len = input.read(&mut chunk)?;
-        if len == 0 {
-            break;
+    let mut line = Front::new();
+    for b in input.bytes() {
+        let b = b?;
+        if b == b'\n' {
+            answer(&line, &mut tally, &mut out)?;
+            line.clear();
+        } else {
+            line.push(b);
         }
-        take_in(&chunk[0..len], &mut line, &mut tally, &mut out)?;
     }
     if !line.is_empty() {
         answer(&line, &mut tally, &mut out)?;

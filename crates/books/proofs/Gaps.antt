@@ -1,44 +1,33 @@
 -- A gap that is closed by moving what follows one place down.
-use Rattle.std.proofs.Common.{◌≡◌, ℕ, suc, ◌+◌, ◌-◌, ◌<◌, ◌≤◌, true, false, cond, List, [], ◌∷◌, ◌++◌, length, get_or, take, drop, set, sym, refl, ap, ◌∙◌, append_assoc, arith}
+use Rattle.std.proofs.Common.{◌≡◌, ℕ, suc, ◌+◌, ◌-◌, ◌<◌, ◌≤◌, List, [], ◌∷◌, ◌++◌, length, take, drop, sym, refl, ap, ◌∙◌, append_assoc, arith}
+use Rattle.std.proofs.lemmas.Grind.{common_steps}
 use lib.Seq.{paste}
-use Rattle.std.proofs.lemmas.List.Edits.{paste_more, drop-paste, take-paste}
-use Rattle.std.proofs.lemmas.List.{get_or-drop, length-drop, length-take-le, drop-take, take-take, drop-drop, take-append-le, drop-append-le}
+use Rattle.std.proofs.lemmas.List.Edits.{drop-paste, take-paste}
+use Rattle.std.proofs.lemmas.List.{length-drop, length-take-le, drop-take, take-take, drop-drop, drop-append-le}
+use Rattle.std.proofs.lemmas.Bool.Decides.{nat_tests}
 use Rattle.books.specs.declared.book.Entry.{Entry}
-use Rattle.books.specs.Keys.{alike}
-use Rattle.books.specs.Runs.{closed}
 use Rattle.books.specs.Lists.{place_of, without}
+
+-- the cells, the n that follow the gap moved one place down
+abbrev pub closed : {X : Type 0} → List X → ℕ → ℕ → List X
+closed cells gap n = paste cells gap (drop (gap + 1) cells) n
 
 right : {X : Type 0} (d s : List X) (at n : ℕ) → paste d at s n ≡ take at d ++ (take n s ++ drop (at + n) d)
 right d s at n = simp append_assoc
 
 module _ {X : Type 0} (xs : List X) (gap : ℕ) where
-  -- the next cell, read at j, moves down
-  pub closed_more : (ys : List X) (i : ℕ) {j : ℕ} (d : X) → gap + i + 1 < length xs → ys ≡ closed xs gap i → j ≡ gap + i + 1 → set ys (gap + i) (get_or ys j d) ≡ closed xs gap (i + 1)
-  unfolding closed
-  closed_more ys i {j} d h e ej =
-      let rest : i < length (drop (gap + 1) xs) = simp length-drop (omega arith) in
-      let le : i ≤ length (drop (gap + 1) xs) = omega arith in
-      let far : drop (gap + i) ys ≡ drop (gap + i) xs = ap (drop (gap + i)) e ∙ drop-paste xs gap (drop (gap + 1) xs) i (omega arith) le in
-      let n : gap + 1 + i ≡ gap + i + 1 = omega arith in
-      let there : get_or ys j d ≡ get_or (drop (gap + 1) xs) i d =
-      ap (λ m. get_or ys m d) ej ∙ sym (get_or-drop (gap + i) ys 1 d) ∙ ap (λ l. get_or l 1 d) far ∙ get_or-drop (gap + i) xs 1 d ∙ ap (λ m. get_or xs m d) (sym n) ∙ sym (get_or-drop (gap + 1) xs i d) in
-      ap (λ l. set l (gap + i) (get_or ys j d)) e ∙ ap (set (closed xs gap i) (gap + i)) there ∙ paste_more xs gap (drop (gap + 1) xs) i d (omega arith) rest
-
   -- what lies below the gap, and past what was moved, is as it was
   pub closed_before : (m n : ℕ) → m ≤ gap → gap ≤ length xs → take m (closed xs gap n) ≡ take m xs
-  unfolding closed
-  closed_before m n h l =
-      let e = length-take-le gap xs l in
-      ap (take m) (right xs (drop (gap + 1) xs) gap n) ∙ take-append-le m (take gap xs) (take n (drop (gap + 1) xs) ++ drop (gap + n) xs) (omega arith) ∙ take-take m gap xs h
+  closed_before m n h l = grind (arith, common_steps)
 
   pub closed_after : (m n : ℕ) → gap + n ≤ m → gap + n < length xs → drop m (closed xs gap n) ≡ drop m xs
-  unfolding closed
   closed_after m n h l =
       let f : (gap + n) + (m - (gap + n)) ≡ m = omega arith in
       let le : n ≤ length (drop (gap + 1) xs) = simp length-drop (omega arith) in
-      ap (λ k. drop k (closed xs gap n)) (sym f) ∙ sym (drop-drop (m - (gap + n)) (gap + n) (closed xs gap n))
-      ∙ ap (drop (m - (gap + n))) (drop-paste xs gap (drop (gap + 1) xs) n (omega arith) le)
-      ∙ drop-drop (m - (gap + n)) (gap + n) xs ∙ ap (λ k. drop k xs) f
+      let moved = drop-paste xs gap (drop (gap + 1) xs) n (omega arith) le in
+      let t = drop-drop (m - (gap + n)) (gap + n) (closed xs gap n) in
+      let u = drop-drop (m - (gap + n)) (gap + n) xs in
+      cc
 
 nest : (a b c : ℕ) → a + b + c ≡ a + (b + c)
 nest a b c = omega arith
@@ -46,7 +35,6 @@ nest a b c = omega arith
 -- a row of len from `from` on, whose entry p is taken out
 pub closed_row : {X : Type 0} (xs : List X) (from p n len : ℕ) → p + n + 1 ≡ len → from + len ≤ length xs
     → take (len - 1) (drop from (closed xs (from + p) n)) ≡ take p (take len (drop from xs)) ++ drop (suc p) (take len (drop from xs))
-unfolding closed
 closed_row xs from p n len el h =
     let tail = drop (from + p + 1) xs in
     let z = drop from xs in
@@ -67,16 +55,8 @@ closed_row xs from p n len el h =
 module _ {K R : Type 0} (says : K → List ℕ) where
   pub without_at : (es : List (Entry K R)) (k : K) → place_of says es k < length es → without says es k ≡ take (place_of says es k) es ++ drop (suc (place_of says es k)) es
   without_at [] k h = absurd (omega arith)
-  without_at (e ∷ es) k h =
-      (elim (alike (says e.key) (says k)) as (λ v. cond v 0 (suc (place_of says es k)) < suc (length es) → cond v es (e ∷ without says es k) ≡ take (cond v 0 (suc (place_of says es k))) (e ∷ es) ++ drop (suc (cond v 0 (suc (place_of says es k)))) (e ∷ es)) [
-        | true ↦ λ h. refl
-        | false ↦ λ h. ap (λ l. e ∷ l) (without_at es k (omega arith))
-      ]) h
+  without_at (e ∷ es) k h = let ih = without_at es k in grind (arith, common_steps, nat_tests)
 
   pub without_none : (es : List (Entry K R)) (k : K) → length es ≤ place_of says es k → without says es k ≡ es
   without_none [] k h = refl
-  without_none (e ∷ es) k h =
-      (elim (alike (says e.key) (says k)) as (λ v. suc (length es) ≤ cond v 0 (suc (place_of says es k)) → cond v es (e ∷ without says es k) ≡ e ∷ es) [
-        | true ↦ λ h. absurd (omega arith)
-        | false ↦ λ h. ap (λ l. e ∷ l) (without_none es k (omega arith))
-      ]) h
+  without_none (e ∷ es) k h = let ih = without_none es k in grind (arith, common_steps, nat_tests)

@@ -1,62 +1,40 @@
 -- What a search of a list finds.
-use Rattle.std.proofs.Common.{◌≡◌, ℕ, zero, suc, ◌+◌, ◌<◌, ◌≤◌, true, false, cond, List, [], ◌∷◌, length, get_or, drop, Some, None, sym, refl, ap, ◌∙◌, arith}
-use Rattle.std.proofs.lemmas.List.{at_drop_more, at_drop_all}
-use Rattle.std.proofs.lemmas.Bool.{cond-true, cond-false}
+use Rattle.std.proofs.Common.{◌≡◌, ℕ, suc, ◌+◌, Bool, true, false, cond, ltb, List, [], ◌∷◌, length, Some, None, sym, refl, ap, ◌∙◌, arith}
+use Rattle.std.specs.List.{find, position}
+use Rattle.std.specs.Option.{option_map}
+use Rattle.std.proofs.lemmas.List.Recursion.{is_position_or_len}
+use Rattle.std.proofs.lemmas.Grind.{common_steps}
 use Rattle.books.specs.declared.book.Entry.{Entry}
 use Rattle.books.specs.Keys.{alike}
-use Rattle.books.specs.Lists.{place_of, found, entry_at}
+use Rattle.books.specs.Lists.{place_of, found, has}
+
+some_where : (b : Bool) (x p : ℕ) → Some p ≡ cond b (Some x) None → (b ≡ true) × (p ≡ x)
+some_where true x p e = (refl, cc)
+some_where false x p e = cc
+
+none_where : (b : Bool) (x : ℕ) → None ≡ cond b (Some x) None → b ≡ false
+none_where true x e = cc
+none_where false x e = refl
+
+count_on : (b : Bool) (n : ℕ) → cond b 0 (suc n) ≡ cond b 0 (1 + n)
+count_on b n = ap (cond b 0) (omega arith)
 
 module _ {K R : Type 0} (says : K → List ℕ) where
-  -- the steps of a search
-  pub place_hit : (es : List (Entry K R)) (i : ℕ) (d : Entry K R) (k : K) → i < length es → place_of says es k ≡ i + place_of says (drop i es) k → true ≡ alike (says (get_or es i d).key) (says k) → i ≡ place_of says es k
-  place_hit es i d k lt e t =
-      let s : place_of says (drop i es) k ≡ 0 = at_drop_more (λ xs. place_of says xs k) es i d lt ∙ cond-true _ _ _ (sym t) in
-      omega arith
+  -- whether an entry is the key's
+  abbrev pub keyed : K → Entry K R → Bool
+  keyed k e = alike (says e.key) (says k)
 
-  pub place_miss : (es : List (Entry K R)) (i : ℕ) (d : Entry K R) (k : K) → i < length es → place_of says es k ≡ i + place_of says (drop i es) k → false ≡ alike (says (get_or es i d).key) (says k) → place_of says es k ≡ (i + 1) + place_of says (drop (i + 1) es) k
-  place_miss es i d k lt e t =
-      let s : place_of says (drop i es) k ≡ suc (place_of says (drop (i + 1) es) k) = at_drop_more (λ xs. place_of says xs k) es i d lt ∙ cond-false _ _ _ (sym t) in
-      omega arith
+  -- the record under a key is that of the first entry that has it
+  pub found_is : (es : List (Entry K R)) (k : K) → found says es k ≡ option_map (λ e. e.record) (find (keyed k) es)
+  found_is [] k = refl
+  found_is (e ∷ es) k = let ih = found_is es k in grind (arith, common_steps)
 
-  pub place_end : (es : List (Entry K R)) (i : ℕ) (k : K) → i ≡ length es → place_of says es k ≡ i + place_of says (drop i es) k → length es ≡ place_of says es k
-  place_end es i k l e =
-      let h : length es ≤ i = omega arith in
-      let s : place_of says (drop i es) k ≡ 0 = at_drop_all (λ xs. place_of says xs k) es i h in
-      omega arith
+  -- what a search answers, in the words of the list
+  answer_is : (es : List (Entry K R)) (k : K) → position (keyed k) es ≡ cond (has says es k) (Some (place_of says es k)) None
+  answer_is es k = ap (λ n. cond (ltb n (length es)) (Some n) None) (sym (is_position_or_len (λ l. place_of says l k) (keyed k) refl (λ x xs. count_on (keyed k x) (place_of says xs k)) es))
 
-  pub place_le : (es : List (Entry K R)) (k : K) → place_of says es k ≤ length es
-  place_le [] k = omega arith
-  place_le (e ∷ es) k =
-      let h = place_le es k in
-      elim (alike (says e.key) (says k)) as (λ v. cond v 0 (suc (place_of says es k)) ≤ suc (length es)) [ true ↦ omega arith | false ↦ omega arith ]
+  pub sought_some : (es : List (Entry K R)) (k : K) (p : ℕ) → Some p ≡ position (keyed k) es → (has says es k ≡ true) × (p ≡ place_of says es k)
+  sought_some es k p e = some_where _ _ _ (e ∙ answer_is es k)
 
-  -- the record stands at the key's place
-  pub found_at : (es : List (Entry K R)) (k : K) (d : Entry K R) → place_of says es k < length es → found says es k ≡ Some (get_or es (place_of says es k) d).record
-  found_at [] k d h = absurd (omega arith)
-  found_at (e ∷ es) k d h =
-      (elim (alike (says e.key) (says k)) as (λ v. cond v 0 (suc (place_of says es k)) < suc (length es) → cond v (Some e.record) (found says es k) ≡ Some (get_or (e ∷ es) (cond v 0 (suc (place_of says es k))) d).record) [
-        | true ↦ λ h. refl
-        | false ↦ λ h. found_at es k d (omega arith)
-      ]) h
-
-  pub found_hit : (es : List (Entry K R)) (k : K) (d : Entry K R) (i : ℕ) → i ≡ place_of says es k → i < length es → Some (get_or es i d).record ≡ found says es k
-  found_hit es k d i e h = ap (λ n. Some (get_or es n d).record) e ∙ sym (found_at es k d (omega arith))
-
-  pub found_none : (es : List (Entry K R)) (k : K) → length es ≤ place_of says es k → found says es k ≡ None
-  found_none [] k h = refl
-  found_none (e ∷ es) k h =
-      (elim (alike (says e.key) (says k)) as (λ v. suc (length es) ≤ cond v 0 (suc (place_of says es k)) → cond v (Some e.record) (found says es k) ≡ None) [
-        | true ↦ λ h. absurd (omega arith)
-        | false ↦ λ h. found_none es k (omega arith)
-      ]) h
-
-module _ {X : Type 0} where
-  pub nth_at : (xs : List X) (n : ℕ) (d : X) → n < length xs → entry_at xs n ≡ Some (get_or xs n d)
-  nth_at [] n d h = absurd (omega arith)
-  nth_at (x ∷ xs) zero d h = refl
-  nth_at (x ∷ xs) (suc n) d h = nth_at xs n d (omega arith)
-
-  pub nth_past : (xs : List X) (n : ℕ) → length xs ≤ n → entry_at xs n ≡ None
-  nth_past [] n h = refl
-  nth_past (x ∷ xs) zero h = absurd (omega arith)
-  nth_past (x ∷ xs) (suc n) h = nth_past xs n (omega arith)
+  pub sought_none : (es : List (Entry K R)) (k : K) → None ≡ position (keyed k) es → has says es k ≡ false
+  sought_none es k e = none_where _ (place_of says es k) (e ∙ answer_is es k)

@@ -1,7 +1,6 @@
 -- Equal shares: each account's own run of cells.
-use Rattle.std.specs.Prelude.{◌≡◌, ℕ, ◌+◌, ◌*◌, ◌/◌, ◌≤◌, min, true, false, cond, List, [], length, take, drop, nat_lt, slice_index}
+use Rattle.std.specs.Prelude.{◌≡◌, ℕ, ◌*◌, ◌/◌, ◌≤◌, min, true, false, cond, List, [], length, take, drop, nat_lt, slice_index}
 use Rattle.std.proofs.Common.{arith}
-use Rattle.std.proofs.Math.Seq.{paste}
 use Rattle.std.proofs.lemmas.Bool.{cond-false, le-ltb}
 use Rattle.std.proofs.lemmas.List.{length-take}
 
@@ -19,10 +18,6 @@ size_of n lens a = min (slice_index lens a) (share_of n)
 -- the entries of account a: those at the front of its run
 abbrev pub run : {X : Type 0} → List X → List ℕ → ℕ → List X
 run cells lens a = cond (nat_lt a 8) (take (size_of (length cells) lens a) (drop (a * share_of (length cells)) cells)) []
-
--- the cells, the n that follow the gap moved one place down
-unfoldable pub closed : {X : Type 0} → List X → ℕ → ℕ → List X
-closed cells gap n = paste cells gap (drop (gap + 1) cells) n
 
 -- no run of entries passes the room
 pub run_fits : {X : Type 0} (cells : List X) (lens : List ℕ) (a : ℕ) → length (run cells lens a) ≤ room_of (length cells) a

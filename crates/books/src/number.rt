@@ -9,7 +9,7 @@ use crate::keys::Key;
 pub const LAST_NUMBER: u32 = 99_999;
 
 // The number of a statement, 1 to 99,999.
-#[derive(Clone, Copy)]
+#[derive(Clone, Copy, PartialEq, Eq)]
 pub struct Number {
     value: u32,
 }
@@ -19,11 +19,9 @@ impl Number {
     pub fn new(value: u32) -> Option<Number>
         ensures { result ≡ numbered value }
     {
-        if value >= 1 && value <= LAST_NUMBER {
-            Some(Number { value })
-        } else {
-            None
-        }
+        (1..=LAST_NUMBER)
+            .contains(&value)
+            .then_some(Number { value })
     }
 
     pub fn value(self) -> u32
@@ -40,6 +38,6 @@ impl Key for Number {
     ghost tells = { Prim.search rules };
 
     fn same(&self, other: &Number) -> bool {
-        other.value == self.value
+        self == other
     }
 }

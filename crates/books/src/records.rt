@@ -48,16 +48,12 @@ impl State {
     }
 }
 
-// The three letters of a currency.
-#[derive(Clone, Copy, PartialEq, Eq)]
-pub struct Currency(pub u8, pub u8, pub u8);
-
 // An order, kept under its reference. The amount is in hundredths.
 #[derive(Clone, Copy, PartialEq, Eq)]
 pub struct Order {
     pub kind: OrderType,
     pub date: Date,
-    pub currency: Currency,
+    pub currency: [u8; 3],
     pub amount: u64,
     pub state: State,
 }
@@ -67,6 +63,6 @@ pub struct Order {
 #[derive(Clone, Copy, PartialEq, Eq)]
 pub struct Statement {
     pub date: Date,
-    pub currency: Currency,
+    pub currency: [u8; 3],
     pub amount: i64,
 }

@@ -1,8 +1,8 @@
 //! The key of an order: its reference.
-ghost use Rattle.std.specs.Prelude.{◌≡◌, ◌≤◌, ◌++◌, length};
+ghost use Rattle.std.specs.Prelude.{◌≡◌};
 ghost use Rattle.mt_text.specs.Refusals.{told};
 ghost use Rattle.mt_text.specs.Lent.{fitted, overwritten};
-ghost use Rattle.books.specs.References.{is_reference, word_of, bytes_of, reference_of, spelled, said, says_of, if_reference};
+ghost use Rattle.books.specs.References.{is_reference, reference_of, spelled, said, says_of, if_reference};
 ghost use Rattle.books.specs.KeyLaws.{tells_apart};
 
 use crate::keys::Key;
@@ -11,31 +11,19 @@ use mt_text::{Class, Fault, all_of, put_front};
 // The most bytes that a reference has.
 pub const MAX_REFERENCE: usize = 16;
 
-// A reference: 1 to 16 bytes of x, eight to a word, the first in the lowest bits. Places past the
-// length hold zeros, so that equal bytes make equal words. Only `read` makes one.
-#[derive(Clone, Copy)]
+// A reference: 1 to 16 bytes of x. Places past the length hold zeros, so that references with equal
+// bytes are equal in every place. Only `read` makes one.
+// fixed memory: an entry lies in a lent cell and is copied out of it, so there is no vector here
+#[derive(Clone, Copy, PartialEq, Eq)]
 pub struct Reference {
-    first: u64,
-    second: u64,
+    places: [u8; MAX_REFERENCE],
     len: u8,
-}
-
-// The word that holds up to eight bytes.
-fn packed(bytes: &[u8]) -> u64
-    requires { length bytes.now ≤ 8 }
-    ensures { result ≡ word_of bytes.now }
-{
-    let mut word = 0;
-    for i in (0..bytes.len()).rev() {
-        word = word * 256 + u64::from(bytes[i]);
-    }
-    word
 }
 
 fn is_reference(bytes: &[u8]) -> bool
     ensures { result ≡ is_reference bytes.now }
 {
-    bytes.len() >= 1 && bytes.len() <= MAX_REFERENCE && all_of(Class::Printable, bytes)
+    (1..=MAX_REFERENCE).contains(&bytes.len()) && all_of(Class::Printable, bytes)
 }
 
 impl Reference {
@@ -48,23 +36,12 @@ impl Reference {
         if !is_reference(bytes) {
             return None;
         }
-        let len = bytes.len();
-        let cut = if len < 8 { len } else { 8 };
+        let mut places = [0; MAX_REFERENCE];
+        places[..bytes.len()].copy_from_slice(bytes);
         Some(Reference {
-            first: packed(&bytes[0..cut]),
-            second: packed(&bytes[cut..len]),
-            len: len as u8,
+            places,
+            len: bytes.len() as u8,
         })
-    }
-
-    // The sixteen bytes of both words.
-    fn sixteen(self) -> [u8; 16]
-        ensures { result ≡ bytes_of 8 self.first ++ bytes_of 8 self.second }
-    {
-        let mut bytes = [0; 16];
-        bytes[0..8].copy_from_slice(&self.first.to_le_bytes());
-        bytes[8..16].copy_from_slice(&self.second.to_le_bytes());
-        bytes
     }
 
     // Writes the bytes at the front of the buffer and answers how many they are; where they do not
@@ -73,14 +50,8 @@ impl Reference {
         ensures answer { told result ≡ fitted (spelled self) buffer.old }
         ensures buffer { buffer.new ≡ overwritten (spelled self) buffer.old }
     {
-        let bytes = self.sixteen();
-        let len = usize::from(self.len);
-        let end = if len < MAX_REFERENCE {
-            len
-        } else {
-            MAX_REFERENCE
-        };
-        put_front(&bytes[0..end], buffer)
+        let end = usize::from(self.len).min(MAX_REFERENCE);
+        put_front(&self.places[..end], buffer)
     }
 }
 
@@ -91,9 +62,6 @@ impl Key for Reference {
     ghost tells = { λ a b e. tells_apart a b e };
 
     fn same(&self, other: &Reference) -> bool {
-        if self.first != other.first || self.second != other.second {
-            return false;
-        }
-        self.len == other.len
+        self == other
     }
 }

@@ -1,6 +1,6 @@
 //! The book of equal shares: over a lent slice, each account has its own run of cells.
-ghost use Rattle.std.specs.Prelude.{◌≡◌, ◌+◌, ◌*◌, ◌<◌, ◌≤◌, [], length, slice_set};
-ghost use Rattle.books.specs.Runs.{share_of, size_of, room_of, run, closed, run_fits, room_ends};
+ghost use Rattle.std.specs.Prelude.{◌≡◌, ◌+◌, ◌*◌, ◌<◌, ◌≤◌, ◌↔◌, [], length, slice_set, IsSome, IfSome};
+ghost use Rattle.books.specs.Runs.{share_of, size_of, room_of, run, run_fits, room_ends};
 
 use crate::book::{Book, Entry};
 use crate::keys::Key;
@@ -14,10 +14,20 @@ pub const MAX_ROOM: usize = 64;
 
 // The cells, of which account a has those from a times the share on, and how many entries each
 // account has there.
+// fixed memory: the cells are the caller's, lent for as long as the book lives, so what is counted
+// in them stands beside them
 #[derive(Drop)]
 pub struct Shares<'a, K, R> {
     cells: &'a mut [Entry<K, R>],
     lens: [usize; ACCOUNTS],
+}
+
+// An account's run: where it begins, how many cells it has, and how many entries stand in these.
+#[derive(Clone, Copy)]
+struct Run {
+    from: usize,
+    share: usize,
+    len: usize,
 }
 
 impl<'a, K: Key, R: Copy> Shares<'a, K, R> {
@@ -36,59 +46,34 @@ impl<'a, K: Key, R: Copy> Shares<'a, K, R> {
     fn share(&self) -> usize
         ensures { result ≡ share_of (length self.now.cells.now) }
     {
-        let n = self.cells.len() / ACCOUNTS;
-        if n < MAX_ROOM { n } else { MAX_ROOM }
+        (self.cells.len() / ACCOUNTS).min(MAX_ROOM)
     }
 
-    // Where the account's run begins.
-    fn start(&self, account: usize) -> usize
-        requires { account < 8 }
-        ensures value { result ≡ account * share_of (length self.now.cells.now) }
-        ensures within { result + share_of (length self.now.cells.now) ≤ length self.now.cells.now }
+    // The account's run; past account 7 there is none.
+    fn run_of(&self, account: usize) -> Option<Run>
+        ensures variant { IsSome result ↔ (account < 8) }
+        ensures from { IfSome result (λ r. r.from ≡ account * share_of (length self.now.cells.now)) }
+        ensures share { IfSome result (λ r. r.share ≡ share_of (length self.now.cells.now)) }
+        ensures len { IfSome result (λ r. r.len ≡ size_of (length self.now.cells.now) self.now.lens account) }
+        ensures within { IfSome result (λ r. r.from + r.share ≤ length self.now.cells.now) }
     {
-        account * self.share()
-    }
-
-    // How many entries the account has.
-    fn size(&self, account: usize) -> usize
-        requires { account < 8 }
-        ensures { result ≡ size_of (length self.now.cells.now) self.now.lens account }
-    {
+        let len = self.lens.get(account)?;
         let share = self.share();
-        let len = self.lens[account];
-        if len < share { len } else { share }
-    }
-
-    fn store(&mut self, at: usize, entry: Entry<K, R>)
-        requires { at < length self.old.cells.now }
-        ensures cells { self.new.cells.now ≡ slice_set self.old.cells.now at entry }
-        ensures lens { self.new.lens ≡ self.old.lens }
-    {
-        self.cells[at] = entry;
-    }
-
-    // Moves the `count` cells past the gap one place down.
-    fn close(&mut self, gap: usize, count: usize)
-        requires { gap + count < length self.old.cells.now }
-        ensures size { length self.new.cells.now ≡ length self.old.cells.now }
-        ensures cells { self.new.cells.now ≡ closed self.old.cells.now gap count }
-        ensures lens { self.new.lens ≡ self.old.lens }
-    {
-        for i in 0..count {
-            let next = self.cells[gap + i + 1];
-            self.cells[gap + i] = next;
-        }
+        Some(Run {
+            from: account * share,
+            share,
+            len: share.min(*len),
+        })
     }
 
     // The account's entries.
     fn row(&self, account: usize) -> &[Entry<K, R>]
         ensures { result.now ≡ run self.now.cells.now self.now.lens account }
     {
-        if account >= ACCOUNTS {
-            return &self.cells[0..0];
+        match self.run_of(account) {
+            Some(run) => &self.cells[run.from..run.from + run.len],
+            None => &[],
         }
-        let from = self.start(account);
-        &self.cells[from..from + self.size(account)]
     }
 }
 
@@ -110,37 +95,33 @@ impl<'a, K: Key, R: Copy> Book for Shares<'a, K, R> {
     }
 
     fn put(&mut self, account: usize, key: K, record: R) -> Result<(), Fault> {
-        if account >= ACCOUNTS {
+        let Some(run) = self.run_of(account) else {
             return Err(Fault::RoomFull);
+        };
+        match seek(self.row(account), &key) {
+            Some(place) => {
+                self.cells[run.from + place] = Entry { key, record };
+                Ok(())
+            }
+            None if run.len < run.share => {
+                self.cells[run.from + run.len] = Entry { key, record };
+                self.lens[account] = run.len + 1;
+                Ok(())
+            }
+            None => Err(Fault::RoomFull),
         }
-        let from = self.start(account);
-        let share = self.share();
-        let len = self.size(account);
-        let place = seek(self.row(account), &key);
-        if place < len {
-            self.store(from + place, Entry { key, record });
-            return Ok(());
-        }
-        if len >= share {
-            return Err(Fault::RoomFull);
-        }
-        self.store(from + len, Entry { key, record });
-        self.lens[account] = len + 1;
-        Ok(())
     }
 
     fn remove(&mut self, account: usize, key: &K) -> bool {
-        if account >= ACCOUNTS {
+        let Some(run) = self.run_of(account) else {
             return false;
-        }
-        let from = self.start(account);
-        let len = self.size(account);
-        let place = seek(self.row(account), key);
-        if place >= len {
+        };
+        let Some(place) = seek(self.row(account), key) else {
             return false;
-        }
-        self.close(from + place, len - place - 1);
-        self.lens[account] = len - 1;
+        };
+        let place = run.from + place;
+        self.cells.copy_within(place + 1..run.from + run.len, place);
+        self.lens[account] = run.len - 1;
         true
     }
 
@@ -153,6 +134,6 @@ impl<'a, K: Key, R: Copy> Book for Shares<'a, K, R> {
     }
 
     fn room(&self, account: usize) -> usize {
-        if account < ACCOUNTS { self.share() } else { 0 }
+        self.run_of(account).map_or(0, |run| run.share)
     }
 }

@@ -11,10 +11,9 @@ fn kept(bytes: &[u8]) -> bool {
         return false;
     };
     let mut buffer = [b'#'; 20];
-    match reference.write(&mut buffer) {
-        Ok(len) => len <= 19 && &buffer[0..len] == bytes && buffer[len] == b'#',
-        Err(_) => false,
-    }
+    reference.write(&mut buffer).is_ok_and(|len| len <= 19
+        && &buffer[0..len] == bytes
+        && buffer[len] == b'#')
 }
 
 #[test]
@@ -67,10 +66,7 @@ fn samples_differ(rt: HostRuntime) {
 }
 
 fn number_is(value: u32) -> bool {
-    match Number::new(value) {
-        Some(number) => number.value() == value,
-        None => false,
-    }
+    Number::new(value).is_some_and(|number| number.value() == value)
 }
 
 #[test]

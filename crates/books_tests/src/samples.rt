@@ -1,5 +1,5 @@
 //! Keys and records by number, so that one script serves both books.
-use books::{Currency, Key, Number, Order, OrderType, Reference, State, Statement};
+use books::{Key, Number, Order, OrderType, Reference, State, Statement};
 use contents::Date;
 
 const DAY: Date = Date {
@@ -12,10 +12,8 @@ pub trait SampleKey: Key {
     fn sample(n: u32) -> Option<Self>;
 }
 
-pub trait SampleRecord: Copy {
+pub trait SampleRecord: Copy + PartialEq {
     fn sample(n: u32) -> Self;
-
-    fn equals(&self, other: &Self) -> bool;
 }
 
 // References that share a beginning, a word or all but their length; from 10 on all sixteen bytes
@@ -55,14 +53,10 @@ impl SampleRecord for Order {
         Order {
             kind: OrderType::Customer,
             date: DAY,
-            currency: Currency(b'D', b'E', b'N'),
+            currency: *b"DEN",
             amount: u64::from(n),
             state: State::Sent,
         }
-    }
-
-    fn equals(&self, other: &Order) -> bool {
-        *self == *other
     }
 }
 
@@ -70,12 +64,8 @@ impl SampleRecord for Statement {
     fn sample(n: u32) -> Statement {
         Statement {
             date: DAY,
-            currency: Currency(b'E', b'U', b'R'),
+            currency: *b"EUR",
             amount: 50 - i64::from(n),
         }
-    }
-
-    fn equals(&self, other: &Statement) -> bool {
-        *self == *other
     }
 }

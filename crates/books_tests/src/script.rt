@@ -77,10 +77,8 @@ fn nth_answers<K: SampleKey, R: SampleRecord, B: Book<Word = K, Record = R>>(
     let Some(key) = K::sample(key) else {
         return false;
     };
-    match book.nth(account, place) {
-        Some(entry) => entry.key.same(&key) && entry.record.equals(&R::sample(record)),
-        None => false,
-    }
+    book.nth(account, place).is_some_and(|entry| entry.key.same(&key)
+        && entry.record == R::sample(record))
 }
 
 // Makes the call, and says whether it answers as it must.
@@ -91,10 +89,9 @@ fn answers<K: SampleKey, R: SampleRecord, B: Book<Word = K, Record = R>>(
     match step {
         Step::Put(account, key, record) => put_answers(book, account, key, record, true),
         Step::Full(account, key, record) => put_answers(book, account, key, record, false),
-        Step::Find(account, key, record) => match find_answers(&*book, account, key) {
-            Some(found) => found.equals(&R::sample(record)),
-            None => false,
-        },
+        Step::Find(account, key, record) => {
+            find_answers(&*book, account, key) == Some(R::sample(record))
+        }
         Step::Lacks(account, key) => find_answers(&*book, account, key).is_none(),
         Step::Remove(account, key) => remove_answers(book, account, key, true),
         Step::Absent(account, key) => remove_answers(book, account, key, false),

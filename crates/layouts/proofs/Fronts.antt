@@ -1,28 +1,14 @@
 -- The first 10,001 bytes of a text.
-use Rattle.std.proofs.Common.{◌≡◌, ℕ, ◌+◌, ◌<◌, true, ◌||◌, eqb, ltb, List, [], ◌∷◌, ◌++◌, length, take, set, sym, ap, ◌∙◌, ⊎_elim, arith}
-use Rattle.std.proofs.lemmas.List.{take_more_set, take_all, take_at, length-take-le, length_push}
-use Rattle.std.proofs.lemmas.Bool.{cases_lt, cond-true}
+use Rattle.std.proofs.Common.{◌≡◌, ℕ, ◌<◌, List, length, take, sym, ap, ◌∙◌, ⊎_elim, arith}
+use Rattle.std.proofs.lemmas.List.{take_all, length-take-le}
+use Rattle.std.proofs.lemmas.Bool.{cases_lt}
 use Rattle.std.proofs.lemmas.Bool.Decides.{nat_tests}
 use Rattle.mt_text.specs.Refusals.{refused_at}
-use Rattle.mt_text.specs.Bytes.{foreign_from}
-use Rattle.layout.specs.Walk.{heed, walked, laid_out}
-
-module _ (bs : List ℕ) (n b : ℕ) (long : length bs ≡ 10001) where
-  -- there is room for one more
-  pub kept : n < 10001 → take (n + 1) (set bs n b) ≡ take 10001 (take n bs ++ b ∷ [])
-  kept h =
-      let l = length-take-le n bs (omega arith) in
-      take_more_set bs n b (omega arith) ∙ sym (take_all 10001 (take n bs ++ b ∷ []) (omega (arith, length_push (take n bs) b)))
-
-  -- there is none
-  pub full : n ≡ 10001 → take n bs ≡ take 10001 (take n bs ++ b ∷ [])
-  full h = sym (take_at (take n bs) (b ∷ []) 10001 (length-take-le n bs (omega arith) ∙ h))
+use Rattle.layout.specs.Walk.{laid_out}
 
 -- what is longer than 10,000 bytes is refused for its length
 too_long : (bs : List ℕ) → 10000 < length bs → laid_out bs ≡ refused_at 1 0
-too_long bs h =
-    let f : (eqb (length bs) 0 || ltb 10000 (length bs)) ≡ true = grind (arith, nat_tests) in
-    ap (λ c. heed c (λ _. walked bs)) (cond-true (eqb (length bs) 0 || ltb 10000 (length bs)) (refused_at 1 0) (foreign_from 0 bs) f)
+too_long bs h = grind (arith, nat_tests)
 
 -- so the front of a text tells how the text is laid out
 pub front_tells : (text : List ℕ) → laid_out (take 10001 text) ≡ laid_out text

@@ -17,58 +17,54 @@ mod escape;
 mod kept;
 
 use escape::Escape;
+use fronts::Front;
 use headers::Direction;
-use kept::Kept;
+use kept::{KEPT, whole_layout};
 use std::io;
-use std::io::{BufWriter, Read, Write};
+use std::io::{BufReader, BufWriter, Read, Write};
 
-// The line that is being read: a comment, or a text.
+// What a line is.
+#[derive(Clone, Copy, PartialEq, Eq)]
+enum Form {
+    Comment,
+    // a text, with how far its last escape has come
+    Text(Escape),
+}
+
+// The line that is being read, with the text that its bytes write so far.
 #[derive(Drop)]
 struct Line {
-    is_comment: bool,
-    escape: Escape,
-    text: Kept,
+    form: Form,
+    text: Front<KEPT>,
 }
 
 impl Line {
     fn new() -> Line {
         Line {
-            is_comment: false,
-            escape: Escape::Out,
-            text: Kept::new(),
+            form: Form::Text(Escape::Out),
+            text: Front::new(),
         }
     }
 
     // Whether nothing of the line was read yet.
     fn is_new(&self) -> bool {
-        !self.is_comment && self.escape == Escape::Out && self.text.is_empty()
-    }
-
-    // One byte more of an escaped text.
-    fn push(&mut self, b: u8) {
-        let (escape, byte) = self.escape.step(b);
-        self.escape = escape;
-        if let Some(byte) = byte {
-            self.text.push(byte);
-        }
+        self.form == Form::Text(Escape::Out) && self.text.is_empty()
     }
 
     fn clear(&mut self) {
-        self.is_comment = false;
-        self.escape = Escape::Out;
+        self.form = Form::Text(Escape::Out);
         self.text.clear();
     }
 }
 
 // Answers a line that has ended.
 fn answer<W: Write + Drop>(line: &Line, out: &mut BufWriter<W>) -> io::Result<()> {
-    if line.is_comment {
-        return writeln!(out, "");
+    match line.form {
+        Form::Comment => return writeln!(out, ""),
+        Form::Text(Escape::Out) => {}
+        Form::Text(_) => return writeln!(out, "unreadable"),
     }
-    if line.escape != Escape::Out {
-        return writeln!(out, "unreadable");
-    }
-    match line.text.layout() {
+    match whole_layout(&line.text) {
         Ok(layout) => {
             let direction = match layout.direction {
                 Direction::Input => "input",
@@ -88,41 +84,36 @@ fn answer<W: Write + Drop>(line: &Line, out: &mut BufWriter<W>) -> io::Result<()
     }
 }
 
-// Takes in a part of the input, and answers each line that ends in it.
-fn take_in<W: Write + Drop>(
-    part: &[u8],
-    line: &mut Line,
-    out: &mut BufWriter<W>,
-) -> io::Result<()> {
-    for b in part {
-        if *b == b'\n' {
-            answer(line, out)?;
-            line.clear();
-            continue;
-        }
-        if *b == b'#' && line.is_new() {
-            line.is_comment = true;
-        }
-        if line.is_comment {
-            out.write_all(&[*b])?;
-        } else {
-            line.push(*b);
+// Takes in one byte more of the line. Those of a comment are printed as they are.
+fn take_in<W: Write + Drop>(b: u8, line: &mut Line, out: &mut BufWriter<W>) -> io::Result<()> {
+    if b == b'#' && line.is_new() {
+        line.form = Form::Comment;
+    }
+    match line.form {
+        Form::Comment => out.write_all(&[b]),
+        Form::Text(escape) => {
+            let (escape, byte) = escape.step(b);
+            line.form = Form::Text(escape);
+            if let Some(byte) = byte {
+                line.text.push(byte);
+            }
+            Ok(())
         }
     }
-    Ok(())
 }
 
 fn main(rt: HostRuntime) -> io::Result<()> {
-    let mut input = rt.stdin();
+    let input = BufReader::new(rt.alloc(), rt.stdin())?;
     let mut out = BufWriter::new(rt.alloc(), rt.stdout())?;
     let mut line = Line::new();
-    let mut chunk = [0u8; 4096];
-    for _ in 0..u64::MAX {
-        let len = input.read(&mut chunk)?;
-        if len == 0 {
-            break;
+    for b in input.bytes() {
+        let b = b?;
+        if b == b'\n' {
+            answer(&line, &mut out)?;
+            line.clear();
+        } else {
+            take_in(b, &mut line, &mut out)?;
         }
-        take_in(&chunk[0..len], &mut line, &mut out)?;
     }
     if !line.is_new() {
         answer(&line, &mut out)?;

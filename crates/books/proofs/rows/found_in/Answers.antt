@@ -1,9 +1,14 @@
-use Rattle.std.proofs.Common.{sym, arith}
-use Rattle.books.proofs.Places.{found_hit, found_none}
+use Rattle.std.proofs.Common.{◌≡◌, ◌∙◌, sym, ap, rules, tests}
+use Rattle.std.specs.Option.{option_map}
+use Rattle.std.proofs.lemmas.Iterator.{YieldsList-from_slice}
+use Rattle.std.proofs.lemmas.Iterator.Search.{find_from_yields_List}
+use Rattle.books.specs.Keys.{alike}
+use Rattle.books.proofs.Places.{found_is}
 use Rattle.books.proofs.rows.found_in.Goals as goal
 
-pub returns-then-i-row : goal.returns-then-i-row
-returns-then-i-row g c = found_hit g.K.Key.says c.args.row.now c.args.key.now _ c.seek-i.result c.seek-i.ensures c.if-i-row.true
-
-pub returns-else-i-row : goal.returns-else-i-row
-returns-else-i-row g c = sym (found_none g.K.Key.says c.args.row.now c.args.key.now (omega (arith, c.seek-i.ensures)))
+pub returns : goal.returns
+returns g c =
+    let says = g.K.Key.says in
+    let e = find_from_yields_List (λ e. alike (says e.key) (says c.args.key.now)) _ _ c.find.result c.find.ensures.ran (YieldsList-from_slice c.args.row.now cc) (λ x b q k. search (rules, tests)) in
+    let m : c.map.result ≡ option_map (λ e. e.record) (option_map (λ r. r.now) c.find.result) = search rules in
+    m ∙ ap (option_map (λ e. e.record)) e ∙ sym (found_is says c.args.row.now c.args.key.now)

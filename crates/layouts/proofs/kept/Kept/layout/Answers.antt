@@ -1,7 +1,0 @@
-use Rattle.std.proofs.Common.{ap, ◌∙◌}
-use Rattle.layout.specs.Walk.{laid_out}
-use Rattle.layouts.proofs.Fronts.{front_tells}
-use Rattle.layouts.proofs.kept.Kept.layout.Goals as goal
-
-pub returns : goal.returns
-returns c text e = c.lay_out.ensures.answer ∙ ap laid_out (c.front.ensures ∙ e) ∙ front_tells text
