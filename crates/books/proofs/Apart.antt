@@ -8,8 +8,7 @@ use Rattle.books.specs.declared.calls.Call.TheVariants.{Put, Remove}
 use Rattle.books.specs.Keys.{alike}
 use Rattle.books.specs.Lists.{place_of, has, put_list, without, at}
 use Rattle.books.specs.Calls.{left, left_by, apart, AllApart}
-use Rattle.books.specs.KeyLaws.{alike_same}
-use Rattle.books.proofs.Packing.{alike_flip}
+use Rattle.books.proofs.Packing.{alike_same, alike_flip}
 
 module _ {K R : Type 0} (says : K → List ℕ) where
   has_cons : (e : Entry K R) (es : List (Entry K R)) (k : K) → has says (e ∷ es) k ≡ (alike (says e.key) (says k) || has says es k)

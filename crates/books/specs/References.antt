@@ -1,6 +1,5 @@
--- References: 1 to 16 bytes of x, kept in sixteen places with a length.
-use Rattle.std.specs.Prelude.{ℕ, ◌-◌, Bool, cond, ◌&&◌, List, ◌∷◌, ◌++◌, length, take, replicate, Some, None, Option, ◌==◌}
-use Rattle.books.specs.Keys.{alike}
+-- References: 1 to 16 bytes of x, kept in two words and a length.
+use Rattle.std.specs.Prelude.{ℕ, zero, suc, ◌+◌, ◌*◌, ◌/◌, ◌%◌, Bool, cond, ◌&&◌, List, [], ◌∷◌, ◌++◌, length, take, drop, Some, None, Option, ◌==◌}
 use Rattle.mt_text.specs.Classes.{between, every, printable}
 use Rattle.books.specs.declared.reference.Reference.{Reference}
 
@@ -12,25 +11,34 @@ is_reference bs = between 1 16 (length bs) && every printable bs
 abbrev pub if_reference : List ℕ → Option (List ℕ)
 if_reference bs = cond (is_reference bs) (Some bs) None
 
--- bytes as they are kept: sixteen places, zeros behind
+-- a word holds bytes, the first in its lowest eight bits
+abbrev pub word_of : List ℕ → ℕ
+word_of [] = 0
+word_of (b ∷ bs) = word_of bs * 256 + b
+
+abbrev pub bytes_of : ℕ → ℕ → List ℕ
+bytes_of zero word = []
+bytes_of (suc n) word = (word % 256) ∷ bytes_of n (word / 256)
+
+-- bytes as they are kept: eight in the first word, the rest in the second
 unfoldable pub kept : List ℕ → Reference
-kept bs = record { places = bs ++ replicate (16 - length bs) 0; len = length bs }
+kept bs = record { first = word_of (take 8 bs); second = word_of (drop 8 bs); len = length bs }
 
 abbrev pub reference_of : List ℕ → Option Reference
 reference_of bs = cond (is_reference bs) (Some (kept bs)) None
 
 -- the bytes that it holds
 unfoldable pub spelled : Reference → List ℕ
-spelled r = take r.len r.places
+spelled r = take r.len (bytes_of 8 r.first ++ bytes_of 8 r.second)
 
--- whether it is a reference's bytes as they are kept; so of every one that can be made
+-- whether it is its bytes as they are kept; so of every one that can be made
 unfoldable pub is_kept : Reference → Bool
-is_kept r = is_reference (spelled r) && (alike r.places (kept (spelled r)).places && r.len == length (spelled r))
+is_kept r = r.first == word_of (take 8 (spelled r)) && (r.second == word_of (drop 8 (spelled r)) && r.len == length (spelled r))
 
 -- what a reference says: its bytes. Anything else, which cannot be made, would say its own parts
 -- behind 256, which is no byte: so no two that differ say the same
 unfoldable pub says_of : Reference → List ℕ
-says_of r = cond (is_kept r) (spelled r) (256 ∷ r.len ∷ r.places)
+says_of r = cond (is_kept r) (spelled r) (256 ∷ r.first ∷ r.second ∷ r.len ∷ [])
 
 -- what is told of a reference, if there is one
 abbrev pub said : (Reference → List ℕ) → Option Reference → Option (List ℕ)

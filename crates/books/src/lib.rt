@@ -14,6 +14,6 @@ pub use book::{Book, Entry};
 pub use calls::{Call, replay};
 pub use keys::Key;
 pub use number::{LAST_NUMBER, Number};
-pub use records::{Order, OrderType, State, Statement};
+pub use records::{Currency, Order, OrderType, State, Statement};
 pub use reference::{MAX_REFERENCE, Reference};
 pub use shares::{MAX_ROOM, Shares};

@@ -48,12 +48,16 @@ impl State {
     }
 }
 
+// The three letters of a currency. A rule of the project: an entry of a book holds no array.
+#[derive(Clone, Copy, PartialEq, Eq)]
+pub struct Currency(pub u8, pub u8, pub u8);
+
 // An order, kept under its reference. The amount is in hundredths.
 #[derive(Clone, Copy, PartialEq, Eq)]
 pub struct Order {
     pub kind: OrderType,
     pub date: Date,
-    pub currency: [u8; 3],
+    pub currency: Currency,
     pub amount: u64,
     pub state: State,
 }
@@ -63,6 +67,6 @@ pub struct Order {
 #[derive(Clone, Copy, PartialEq, Eq)]
 pub struct Statement {
     pub date: Date,
-    pub currency: [u8; 3],
+    pub currency: Currency,
     pub amount: i64,
 }

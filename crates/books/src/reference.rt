@@ -1,8 +1,8 @@
 //! The key of an order: its reference.
-ghost use Rattle.std.specs.Prelude.{◌≡◌};
+ghost use Rattle.std.specs.Prelude.{◌≡◌, ◌^◌, ◌<◌, ◌≤◌, ◌++◌, length};
 ghost use Rattle.mt_text.specs.Refusals.{told};
 ghost use Rattle.mt_text.specs.Lent.{fitted, overwritten};
-ghost use Rattle.books.specs.References.{is_reference, reference_of, spelled, said, says_of, if_reference};
+ghost use Rattle.books.specs.References.{is_reference, word_of, bytes_of, reference_of, spelled, said, says_of, if_reference};
 ghost use Rattle.books.specs.KeyLaws.{tells_apart};
 
 use crate::keys::Key;
@@ -11,19 +11,32 @@ use mt_text::{Class, Fault, all_of, put_front};
 // The most bytes that a reference has.
 pub const MAX_REFERENCE: usize = 16;
 
-// A reference: 1 to 16 bytes of x. Places past the length hold zeros, so that references with equal
-// bytes are equal in every place. Only `read` makes one.
-// fixed memory: an entry lies in a lent cell and is copied out of it, so there is no vector here
+// A reference: 1 to 16 bytes of x, eight to a word, the first in the lowest bits. Places past the
+// length hold zeros, so that equal bytes make equal words. Only `read` makes one. A rule of the
+// project: two words and a length, so that an entry of a book holds no array.
 #[derive(Clone, Copy, PartialEq, Eq)]
 pub struct Reference {
-    places: [u8; MAX_REFERENCE],
+    first: u64,
+    second: u64,
     len: u8,
+}
+
+// The word that holds up to eight bytes.
+fn packed(bytes: &[u8]) -> u64
+    requires { length bytes.now ≤ 8 }
+    ensures word { result ≡ word_of bytes.now }
+    ensures below { result < 256 ^ length bytes.now }
+{
+    match bytes {
+        [] => 0,
+        [first, rest @ ..] => packed(rest) * 256 + u64::from(*first),
+    }
 }
 
 fn is_reference(bytes: &[u8]) -> bool
     ensures { result ≡ is_reference bytes.now }
 {
-    (1..=MAX_REFERENCE).contains(&bytes.len()) && all_of(Class::Printable, bytes)
+    bytes.len() >= 1 && bytes.len() <= MAX_REFERENCE && all_of(Class::Printable, bytes)
 }
 
 impl Reference {
@@ -36,12 +49,23 @@ impl Reference {
         if !is_reference(bytes) {
             return None;
         }
-        let mut places = [0; MAX_REFERENCE];
-        places[..bytes.len()].copy_from_slice(bytes);
+        let len = bytes.len();
+        let (first, second) = bytes.split_at(len.min(8));
         Some(Reference {
-            places,
-            len: bytes.len() as u8,
+            first: packed(first),
+            second: packed(second),
+            len: len as u8,
         })
+    }
+
+    // The sixteen bytes of both words.
+    fn sixteen(self) -> [u8; 16]
+        ensures { result ≡ bytes_of 8 self.first ++ bytes_of 8 self.second }
+    {
+        let mut bytes = [0; 16];
+        bytes[0..8].copy_from_slice(&self.first.to_le_bytes());
+        bytes[8..16].copy_from_slice(&self.second.to_le_bytes());
+        bytes
     }
 
     // Writes the bytes at the front of the buffer and answers how many they are; where they do not
@@ -50,8 +74,9 @@ impl Reference {
         ensures answer { told result ≡ fitted (spelled self) buffer.old }
         ensures buffer { buffer.new ≡ overwritten (spelled self) buffer.old }
     {
-        let end = usize::from(self.len).min(MAX_REFERENCE);
-        put_front(&self.places[..end], buffer)
+        let bytes = self.sixteen();
+        let len = usize::from(self.len);
+        put_front(&bytes[..len.min(MAX_REFERENCE)], buffer)
     }
 }
 

@@ -1,5 +1,5 @@
 //! Keys and records by number, so that one script serves both books.
-use books::{Key, Number, Order, OrderType, Reference, State, Statement};
+use books::{Currency, Key, Number, Order, OrderType, Reference, State, Statement};
 use contents::Date;
 
 const DAY: Date = Date {
@@ -53,7 +53,7 @@ impl SampleRecord for Order {
         Order {
             kind: OrderType::Customer,
             date: DAY,
-            currency: *b"DEN",
+            currency: Currency(b'D', b'E', b'N'),
             amount: u64::from(n),
             state: State::Sent,
         }
@@ -64,7 +64,7 @@ impl SampleRecord for Statement {
     fn sample(n: u32) -> Statement {
         Statement {
             date: DAY,
-            currency: *b"EUR",
+            currency: Currency(b'E', b'U', b'R'),
             amount: 50 - i64::from(n),
         }
     }

@@ -14,4 +14,4 @@ pub use interface::{Module, Row};
 pub use rows::format_for;
 pub use texts::{Reading, read_text};
 pub use values::Values;
-pub use views::{FieldView, view_field};
+pub use views::{FieldView, Kind, view_field};

@@ -1,7 +1,7 @@
 //! Field i of a text.
 ghost use Rattle.std.specs.Prelude.{◌≡◌};
 ghost use Rattle.content_party.specs.Parties.{parts_of};
-ghost use Rattle.reader.specs.Views.{offset, parts_from, view, views_told};
+ghost use Rattle.reader.specs.Views.{offset, sort_of, sort_told, view, views_told};
 
 use crate::interface::Module;
 use crate::laid::LaidOut;
@@ -11,15 +11,23 @@ use content_party::{Part, Party};
 use fields::Tag;
 use mt_text::Fault;
 
-// A field: its tag, its offset, its content as a part of the text, and where it is a party its parts,
-// each with its offset in the text.
+// What kind of field it is. A rule of the project: the cases of a party borrow its parts of the text,
+// each with its offset there.
+#[derive(Clone, Copy)]
+pub enum Kind<'a> {
+    Plain,
+    BankCode(Part<'a>),
+    AccountAndCode { account: Part<'a>, code: Part<'a> },
+}
+
+// A field: its tag, its offset, and its content as a part of the text.
 #[derive(Clone, Copy)]
 pub struct FieldView<'a> {
     pub tag: Tag,
     pub at: usize,
     pub content: &'a [u8],
     pub content_at: usize,
-    pub party: Option<Party<'a>>,
+    pub kind: Kind<'a>,
 }
 
 // The part by its offset in the text, where the content begins at an offset.
@@ -33,15 +41,21 @@ fn moved(part: Part<'_>, from: usize) -> Part<'_>
     }
 }
 
-// The party by its offsets in the text.
-fn in_text(party: Option<Party<'_>>, from: usize) -> Option<Party<'_>>
-    ensures { parts_of result ≡ parts_from from (parts_of party.entry) }
+// The kind of a field whose content begins at an offset, from its parts as a party.
+fn kind_of(party: Option<Party<'_>>, from: usize) -> Kind<'_>
+    ensures { sort_told result ≡ sort_of from (parts_of party.entry) }
 {
-    let Party { account, code } = party?;
-    Some(Party {
-        account: account.map(|account| moved(account, from)),
-        code: moved(code, from),
-    })
+    let Some(Party { account, code }) = party else {
+        return Kind::Plain;
+    };
+    let code = moved(code, from);
+    match account {
+        None => Kind::BankCode(code),
+        Some(account) => Kind::AccountAndCode {
+            account: moved(account, from),
+            code,
+        },
+    }
 }
 
 // The field at a place of a sound text, counted from 0: none past the last, and the fault of a text
@@ -66,12 +80,12 @@ pub fn view_field<'a, M: Module>(
         return Ok(None);
     };
     let content = field.content(text);
-    let party = in_text(module.party(format, content), field.content_at);
+    let kind = kind_of(module.party(format, content), field.content_at);
     Ok(Some(FieldView {
         tag: field.tag,
         at: field.at,
         content,
         content_at: field.content_at,
-        party,
+        kind,
     }))
 }

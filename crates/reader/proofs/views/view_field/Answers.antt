@@ -5,7 +5,7 @@ use Rattle.std.specs.Option.{option_map}
 use Rattle.mt_text.specs.Refusals.{refusal_of}
 use Rattle.layout.specs.Walk.{heed}
 use Rattle.reader.specs.Values.{told_by}
-use Rattle.reader.specs.Views.{viewed, parts_from}
+use Rattle.reader.specs.Views.{viewed, sort_of}
 use Rattle.reader.proofs.Shown.{read_sound, read_unsound, read_passed, view_none, has_rows, has_format, view_some}
 use Rattle.reader.proofs.views.view_field.Goals as goal
 
@@ -46,6 +46,6 @@ returns g c =
     let f = c.in-Some.field in
     let r = read_sound m c.args.text.now (record { layout = l; values = told_by c.in_ok-reading.reading.values }) c.in_ok-reading.ensures in
     let content = c.content-content.ensures in
-    let parts = c.in_text-party.ensures ∙ ap (parts_from f.content_at) (c.party.ensures ∙ ap (m.party c.in-Some-format_for.format) content) in
-    (λ i. Ok (Some (record { tag = f.tag; at = f.at; content = content i; content_at = f.content_at; party = parts i })))
+    let parts = c.kind_of-kind.ensures ∙ ap (sort_of f.content_at) (c.party.ensures ∙ ap (m.party c.in-Some-format_for.format) content) in
+    (λ i. Ok (Some (record { tag = f.tag; at = f.at; content = content i; content_at = f.content_at; sort = parts i })))
     ∙ view_some m c.args.text.now l r g.met.M.Module.lawful c.in-Some-rows.rows.now c.in-Some-rows.ensures c.args.index f c.in-Some.ensures c.in-Some-format_for.format c.in-Some-format_for.ensures
