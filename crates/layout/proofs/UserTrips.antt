@@ -82,8 +82,7 @@ module _ (k : Item) (v after : List ℕ) (ok : value_ok k v ≡ true) (i : ℕ) 
   item_in : (bs : List ℕ) → eqb (get_or bs 0 0) 125 ≡ false → Some k ≡ item_of bs → v ++ 125 ∷ after ≡ drop 5 bs → step_at i bs h ≡ Some (More (putted k here h) (i + 6 + length v))
   item_in bs nb it ev =
       let long = length-append v (125 ∷ after) in
-      let z : length v - 0 ≡ length v = omega arith in
-      let val : take (length v - 0) (v ++ 125 ∷ after) ≡ v = ap (λ n. take n (v ++ 125 ∷ after)) z ∙ take_at v (125 ∷ after) (length v) refl in
+      let val = take_at v (125 ∷ after) (length v) refl in
       sym (placed bs (v ++ 125 ∷ after) i (length v) h k nb it ev (sym (value_place k v after ok)) (omega arith) (putted k here h) (ap (value_ok k) val ∙ ok) (sym (put_free k here h free)))
 
 item_step : (k : Item) (v after : List ℕ) (ok : value_ok k v ≡ true) (i : ℕ) (h : UserHeader) (free : slot k h ≡ None) → step_at i (word k ++ (v ++ 125 ∷ after)) h ≡ Some (More (putted k (record { at = i + 5; len = length v }) h) (i + 6 + length v))
