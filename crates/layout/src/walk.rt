@@ -92,7 +92,8 @@ fn end_at(text: &[u8], at: usize) -> Result<(), Fault>
     Ok(())
 }
 
-// The checks and blocks in their order.
+// The checks and blocks in their order. Apart from `lay_out`, which has one return and not one at each `?`,
+// so that its laws are proved once.
 fn walk(text: &[u8]) -> Result<Layout, Fault>
     ensures { told result ≡ laid_out text.now }
 {
