@@ -135,12 +135,12 @@ stage text k (Some v) i h after ok free is =
 
 -- ---- all four
 
+pub some_mapped : {X Y : Type 0} (f : X → Y) (x : Option X) → is_some (option_map f x) ≡ is_some x
+some_mapped f (Some a) = refl
+some_mapped f None = refl
+
 some_kept : {X Y : Type 0} (f : X → Y) (x : Option X) (y : Option Y) → option_map f x ≡ y → is_some x ≡ is_some y
-some_kept f x y e = by x ∙ ap is_some e
-  where
-    by : (x : Option _) → is_some x ≡ is_some (option_map f x)
-    by (Some a) = refl
-    by None = refl
+some_kept f x y e = sym (some_mapped f x) ∙ ap is_some e
 
 -- what one item leaves of another's place
 kept : (k k' : Item) (o : Option (List ℕ)) (i : ℕ) (h : UserHeader) → ((s : Span) (g : UserHeader) → slot k' (putted k s g) ≡ slot k' g) → slot k' (next_with k o i h) ≡ slot k' h
