@@ -13,13 +13,10 @@ use Rattle.fields.specs.Tags.{tag_at, width}
 use Rattle.fields.specs.Fields.{Found, barred, opens, content_end, field_to, with_end, tagged, next_at, behind, with_field, step_then, body_within}
 use Rattle.fields.specs.Written.{Item, tag_ok, content_ok, ItemOk, letter_then, field_then, shown, Reads, Accepted}
 use Rattle.fields.proofs.Trips.{at_after, is_shown}
-use Rattle.fields.proofs.Bodies.{more_within}
+use Rattle.fields.proofs.Steps.{stepped}
+use Rattle.fields.proofs.Bodies.{more_within, more_tagged}
 
 -- ---- a content
-
--- one step, as it computes
-told : (i b c : ℕ) (bs : List ℕ) (line : ℕ) → content_end line i (b ∷ c ∷ bs) ≡ cond (eqb b 13) (cond (eqb c 10) (cond (opens (get_or bs 0 0)) (Ok i) (content_end (i + 2) (i + 2) bs)) (refused_at 5 line)) (cond (barred b) (refused_at 5 line) (content_end line (i + 1) (c ∷ bs)))
-told i b c bs line = refl
 
 record Content (i : ℕ) (bs : List ℕ) (e : ℕ) (cs rest : List ℕ) : Type 0 where
   split : bs ≡ cs ++ 13 ∷ 10 ∷ rest
@@ -41,7 +38,7 @@ plain_ok b (c ∷ cs) x y h = grind (arith, nat_tests)
 module _ (line i b c : ℕ) (bs : List ℕ) (e : ℕ) (h : content_end line i (b ∷ c ∷ bs) ≡ Ok e) where
   ends_here : eqb b 13 ≡ true → eqb c 10 ≡ true → opens (get_or bs 0 0) ≡ true → SomeContent i (b ∷ c ∷ bs) e
   ends_here x y z =
-      let t = told i b c bs line in
+      let t = stepped line i (b ∷ c ∷ bs) (omega arith) in
       let p = eqb-true b 13 x in
       let q = eqb-true c 10 y in
       let same : i ≡ e = grind (arith, nat_tests) in
@@ -49,7 +46,7 @@ module _ (line i b c : ℕ) (bs : List ℕ) (e : ℕ) (h : content_end line i (b
 
   goes_on : eqb b 13 ≡ true → eqb c 10 ≡ true → opens (get_or bs 0 0) ≡ false → (content_end (i + 2) (i + 2) bs ≡ Ok e → SomeContent (i + 2) bs e) → SomeContent i (b ∷ c ∷ bs) e
   goes_on x y z ih =
-      let t = told i b c bs line in
+      let t = stepped line i (b ∷ c ∷ bs) (omega arith) in
       let left : content_end (i + 2) (i + 2) bs ≡ Ok e = grind (arith, nat_tests) in
       let r = ih left in
       let cs = r.0 in
@@ -60,7 +57,7 @@ module _ (line i b c : ℕ) (bs : List ℕ) (e : ℕ) (h : content_end line i (b
 
   steps : eqb b 13 ≡ false → barred b ≡ false → (content_end line (i + 1) (c ∷ bs) ≡ Ok e → SomeContent (i + 1) (c ∷ bs) e) → SomeContent i (b ∷ c ∷ bs) e
   steps x y ih =
-      let t = told i b c bs line in
+      let t = stepped line i (b ∷ c ∷ bs) (omega arith) in
       let left : content_end line (i + 1) (c ∷ bs) ≡ Ok e = grind (arith, nat_tests) in
       let r = ih left in
       let d = r.2 in
@@ -69,8 +66,8 @@ module _ (line i b c : ℕ) (bs : List ℕ) (e : ℕ) (h : content_end line i (b
   by_byte : (content_end (i + 2) (i + 2) bs ≡ Ok e → SomeContent (i + 2) bs e) → (content_end line (i + 1) (c ∷ bs) ≡ Ok e → SomeContent (i + 1) (c ∷ bs) e) → (eqb b 13 ≡ true) ⊎ (eqb b 13 ≡ false) → (eqb c 10 ≡ true) ⊎ (eqb c 10 ≡ false) → (opens (get_or bs 0 0) ≡ true) ⊎ (opens (get_or bs 0 0) ≡ false) → (barred b ≡ true) ⊎ (barred b ≡ false) → SomeContent i (b ∷ c ∷ bs) e
   by_byte skip on (inl x) (inl y) (inl z) w = ends_here x y z
   by_byte skip on (inl x) (inl y) (inr z) w = goes_on x y z skip
-  by_byte skip on (inl x) (inr y) z w = let t = told i b c bs line in absurd (grind (arith, nat_tests))
-  by_byte skip on (inr x) y z (inl w) = let t = told i b c bs line in absurd (grind (arith, nat_tests))
+  by_byte skip on (inl x) (inr y) z w = let t = stepped line i (b ∷ c ∷ bs) (omega arith) in absurd (grind (arith, nat_tests))
+  by_byte skip on (inr x) y z (inl w) = let t = stepped line i (b ∷ c ∷ bs) (omega arith) in absurd (grind (arith, nat_tests))
   by_byte skip on (inr x) y z (inr w) = steps x w on
 
 content_back : (line i : ℕ) (bs : List ℕ) (e : ℕ) → content_end line i bs ≡ Ok e → SomeContent i bs e
@@ -144,12 +141,7 @@ with_tag i bs f None o h = absurd (grind arith)
 with_tag i bs f (Some t) o h = with_content i bs t f (content_end i (i + width t) (drop (width t) bs)) o refl h
 
 field_back : (i : ℕ) (bs : List ℕ) (f : Field) → next_at i bs ≡ Ok (More f) → SomeField i bs f
-field_back i bs f h = with_tag i bs f (tag_at bs) refl (go (eqb (get_or bs 0 0) 45) (eqb (get_or bs 1 0) 125) (tagged i bs (tag_at bs)) h)
-  where
-    go : (x y : Bool) (r : Result Next Refusal) → cond x (cond y (Ok (End i)) (refused_at 5 i)) r ≡ Ok (More f) → r ≡ Ok (More f)
-    go true true r e = absurd (grind arith)
-    go true false r e = absurd (grind arith)
-    go false y r e = e
+field_back i bs f h = with_tag i bs f (tag_at bs) refl (more_tagged i bs f h)
 
 not_end : (i k : ℕ) (bs : List ℕ) (o : Option Tag) → tagged i bs o ≡ Ok (End k) → ⊥
 not_end i k bs None h = absurd (grind arith)

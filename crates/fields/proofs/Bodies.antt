@@ -24,14 +24,18 @@ with_tag : (i : ℕ) (bs : List ℕ) (f : Field) (o : Option Tag) → tag_at bs 
 with_tag i bs f None q h = absurd (grind arith)
 with_tag i bs f (Some t) q h = ended i bs t f (content_end i (i + width t) (drop (width t) bs)) (tag_within bs t q) refl h
 
--- a field takes some bytes, all in the text
-pub more_within : (i : ℕ) (bs : List ℕ) (f : Field) → next_at i bs ≡ Ok (More f) → (i < behind f) × (behind f ≤ i + length bs)
-more_within i bs f h = with_tag i bs f (tag_at bs) refl (go (eqb (get_or bs 0 0) 45) (eqb (get_or bs 1 0) 125) (tagged i bs (tag_at bs)) h)
+-- a field begins with its tag
+pub more_tagged : (i : ℕ) (bs : List ℕ) (f : Field) → next_at i bs ≡ Ok (More f) → tagged i bs (tag_at bs) ≡ Ok (More f)
+more_tagged i bs f h = go (eqb (get_or bs 0 0) 45) (eqb (get_or bs 1 0) 125) (tagged i bs (tag_at bs)) h
   where
     go : (x y : Bool) (r : Result Next Refusal) → cond x (cond y (Ok (End i)) (refused_at 5 i)) r ≡ Ok (More f) → r ≡ Ok (More f)
     go true true r e = absurd (grind arith)
     go true false r e = absurd (grind arith)
     go false y r e = e
+
+-- a field takes some bytes, all in the text
+pub more_within : (i : ℕ) (bs : List ℕ) (f : Field) → next_at i bs ≡ Ok (More f) → (i < behind f) × (behind f ≤ i + length bs)
+more_within i bs f h = with_tag i bs f (tag_at bs) refl (more_tagged i bs f h)
 
 -- the extent of what is left, behind k fields
 abbrev pub past : ℕ → Result Found Refusal → Result Body Refusal

@@ -1,13 +1,14 @@
 //! The lines of block 4, cut into fields by one walk from the left.
-ghost use Rattle.std.specs.Prelude.{◌≡◌, ◌-◌, ◌^◌, ◌≤◌, min, length, drop};
+ghost use Rattle.std.specs.Prelude.{◌≡◌, ◌==◌, ◌||◌, ◌-◌, ◌^◌, ◌≤◌, min, length, drop, position};
 ghost use Rattle.mt_text.specs.Refusals.{told};
-ghost use Rattle.fields.specs.Fields.{barred, opens, content_end, next_at, behind, body_at, sized};
+ghost use Rattle.fields.specs.Fields.{barred, content_end, next_at, behind, body_at, sized};
 ghost use Rattle.fields.specs.Written.{shown, RoundTrip, Accepted};
 
 use crate::tags::{Tag, tag_at};
-use mt_text::{Fault, byte_at, part};
+use mt_text::{Fault, part, rest};
 
-// A field: its tag, the offset of its first colon, and where its content stands.
+// A field: its tag, the offset of its first colon, and where its content stands. Offsets and no part of
+// the text, since a refusal tells them.
 #[derive(Clone, Copy, PartialEq, Eq, Debug)]
 pub struct Field {
     pub tag: Tag,
@@ -16,7 +17,8 @@ pub struct Field {
     pub len: usize,
 }
 
-// What a line of block 4 begins: a field, or the end, whose hyphen stands at the offset.
+// What a line of block 4 begins: a field, or the end, whose hyphen stands at the offset. Not a
+// `ControlFlow`, whose two cases would not say so.
 #[derive(Clone, Copy, PartialEq, Eq, Debug)]
 pub enum Next {
     More(Field),
@@ -30,42 +32,29 @@ pub struct Body {
     pub hyphen: usize,
 }
 
-// What no line holds: a brace, and an LF that no CR stands before.
-fn is_barred(b: u8) -> bool
-    ensures { result ≡ barred b }
+// Where a line's plain bytes end: at a CR, or at what no line holds, which is a brace and an LF with no
+// CR before it. None where the text ends first.
+fn plain_end(bytes: &[u8]) -> Option<usize>
+    ensures { result ≡ position (λ b. b == 13 || barred b) bytes.now }
 {
-    matches!(b, b'{' | b'}' | b'\n')
-}
-
-// Whether a line that begins so ends the content before it.
-fn is_opening(b: u8) -> bool
-    ensures { result ≡ opens b }
-{
-    matches!(b, b':' | b'-')
+    bytes
+        .iter()
+        .position(|b| matches!(b, b'\r' | b'{' | b'}' | b'\n'))
 }
 
 // Where the content that goes on at `from`, in the line at `line`, ends: at its last CR LF.
-fn content_end(text: &[u8], line: usize, from: usize) -> Result<usize, Fault>
-    requires { from ≤ length text.now }
+fn content_end(text: &[u8], mut line: usize, mut from: usize) -> Result<usize, Fault>
     ensures { told result ≡ content_end line from (drop from text.now) }
 {
-    let mut line = line;
-    let mut i = from;
-    while i < text.len() {
-        let b = text[i];
-        if b == b'\r' {
-            if byte_at(text, i + 1) != b'\n' {
-                return Err(Fault::Line { at: line });
+    while let Some(plain) = plain_end(rest(text, from)) {
+        let end = from + plain;
+        match rest(text, end).strip_prefix(b"\r\n") {
+            Some([b':' | b'-', ..]) => return Ok(end),
+            Some(_) => {
+                line = end + 2;
+                from = line;
             }
-            if is_opening(byte_at(text, i + 2)) {
-                return Ok(i);
-            }
-            i += 2;
-            line = i;
-        } else if is_barred(b) {
-            return Err(Fault::Line { at: line });
-        } else {
-            i += 1;
+            None => return Err(Fault::Line { at: line }),
         }
     }
     Err(Fault::Line { at: line })
@@ -76,18 +65,11 @@ fn content_end(text: &[u8], line: usize, from: usize) -> Result<usize, Fault>
 pub fn next_field(text: &[u8], at: usize) -> Result<Next, Fault>
     ensures { told result ≡ next_at at (drop at text.now) }
 {
-    if at > text.len() {
-        return Err(Fault::Line { at });
+    let line = rest(text, at);
+    if let [b'-', b'}', ..] = line {
+        return Ok(Next::End { hyphen: at });
     }
-    if byte_at(text, at) == b'-' {
-        if byte_at(text, at + 1) == b'}' {
-            return Ok(Next::End { hyphen: at });
-        }
-        return Err(Fault::Line { at });
-    }
-    let Some(tag) = tag_at(text, at) else {
-        return Err(Fault::Line { at });
-    };
+    let tag = tag_at(line).ok_or(Fault::Line { at })?;
     let content_at = at + tag.width();
     let end = content_end(text, at, content_at)?;
     Ok(Next::More(Field {
@@ -123,6 +105,7 @@ pub fn read_body(text: &[u8], at: usize) -> Result<Body, Fault>
 {
     let mut fields = 0;
     let mut from = at;
+    // no iterator over fields: it could not hand out the hyphen that ends them
     loop {
         match next_field(text, from)? {
             Next::More(field) => {

@@ -1,8 +1,6 @@
 //! Tags: two digits and perhaps a capital, between colons.
-ghost use Rattle.std.specs.Prelude.{◌≡◌, ◌≤◌, length, drop};
+ghost use Rattle.std.specs.Prelude.{◌≡◌};
 ghost use Rattle.fields.specs.Tags.{tag_at, width};
-
-use mt_text::{byte_at, is_capital, is_digit};
 
 // The tag of a field, by its characters.
 #[derive(Clone, Copy, PartialEq, Eq, Debug)]
@@ -24,30 +22,21 @@ impl Tag {
     }
 }
 
-// The tag with its colons that stands at a place.
-pub(crate) fn tag_at(text: &[u8], at: usize) -> Option<Tag>
-    requires { at ≤ length text.now }
-    ensures { result ≡ tag_at (drop at text.now) }
+// The tag with its colons that a line begins with.
+pub(crate) fn tag_at(line: &[u8]) -> Option<Tag>
+    ensures { result ≡ tag_at line.now }
 {
-    let tens = byte_at(text, at + 1);
-    let units = byte_at(text, at + 2);
-    if byte_at(text, at) != b':' || !is_digit(tens) || !is_digit(units) {
+    let [b':', tens @ b'0'..=b'9', units @ b'0'..=b'9', after @ ..] = line else {
         return None;
-    }
-    let third = byte_at(text, at + 3);
-    if third == b':' {
-        Some(Tag {
-            tens,
-            units,
-            letter: None,
-        })
-    } else if is_capital(third) && byte_at(text, at + 4) == b':' {
-        Some(Tag {
-            tens,
-            units,
-            letter: Some(third),
-        })
-    } else {
-        None
-    }
+    };
+    let letter = match after {
+        [b':', ..] => None,
+        [letter @ b'A'..=b'Z', b':', ..] => Some(*letter),
+        _ => return None,
+    };
+    Some(Tag {
+        tens: *tens,
+        units: *units,
+        letter,
+    })
 }

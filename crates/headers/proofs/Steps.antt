@@ -1,13 +1,36 @@
 -- One step through block 3, in the code's words.
-use Rattle.std.proofs.Common.{◌≡◌, ℕ, suc, ◌+◌, ◌-◌, ◌<◌, ◌≤◌, Bool, true, false, cond, eqb, ltb, List, length, get_or, take, drop, Some, None, Option, sym, refl, ap, ◌∙◌, arith}
+use Rattle.std.proofs.Common.{◌≡◌, ℕ, suc, ◌+◌, ◌-◌, ◌<◌, ◌≤◌, Bool, true, false, cond, eqb, ltb, List, length, get_or, take, drop, Some, None, codes, Option, sym, refl, ap, ◌∙◌, arith}
 use Rattle.std.proofs.lemmas.Bool.{cond-true, cond-false, lt-ltb, le-ltb, ltb-true}
+use Rattle.std.specs.List.{position, position_or_len}
 use Rattle.std.proofs.lemmas.List.{length-drop}
+use Rattle.std.proofs.lemmas.List.Recursion.{is_position_or_len}
+use Rattle.std.proofs.lemmas.Bool.Decides.{nat_tests}
 use Rattle.contents.specs.Digits.{place, and_then}
 use Rattle.headers.specs.declared.user.UserHeader.{UserHeader}
 use Rattle.headers.specs.declared.user.Item.{Item}
 use Rattle.headers.specs.declared.user.Step.{Step}
 use Rattle.headers.specs.declared.user.Step.TheVariants.{More, Closed}
-use Rattle.headers.specs.User.{value_ok, item_of, put_in, is_given, nothing, value_length, closed_at, taken_at, step_at, steps_then, steps_within}
+use Rattle.headers.specs.Parts.{starts}
+use Rattle.headers.proofs.Starts.{starts_length}
+use Rattle.headers.specs.User.{value_ok, item_of, put_in, is_given, nothing, value_length, closed_at, taken_at, step_at, steps_then, steps_within, user_at}
+
+-- the first '}' (125) of a value, if it has one
+is_place : (v : List ℕ) → place 125 v ≡ position_or_len (λ b. eqb b 125) v
+is_place v = is_position_or_len (place 125) (λ b. eqb b 125) refl (λ b bs. grind arith) v
+
+pub closed_value : (v : List ℕ) (n : ℕ) → Some n ≡ position (λ b. eqb b 125) v → (n ≡ place 125 v) × (n < length v)
+closed_value v n e = by (ltb (position_or_len (λ b. eqb b 125) v) (length v)) refl e
+  where
+    by : (x : Bool) → ltb (position_or_len (λ b. eqb b 125) v) (length v) ≡ x → Some n ≡ cond x (Some (position_or_len (λ b. eqb b 125) v)) None → (n ≡ place 125 v) × (n < length v)
+    by true l q = let s : n ≡ position_or_len (λ b. eqb b 125) v = cc in (s ∙ sym (is_place v), omega (arith, ltb-true (position_or_len (λ b. eqb b 125) v) (length v) l))
+    by false l q = absurd (grind arith)
+
+pub open_value : (v : List ℕ) → None ≡ position (λ b. eqb b 125) v → length v ≤ place 125 v
+open_value v e = by (ltb (position_or_len (λ b. eqb b 125) v) (length v)) refl e
+  where
+    by : (x : Bool) → ltb (position_or_len (λ b. eqb b 125) v) (length v) ≡ x → None ≡ cond x (Some (position_or_len (λ b. eqb b 125) v)) None → length v ≤ place 125 v
+    by true l q = absurd (grind arith)
+    by false l q = let p = is_place v in grind (arith, nat_tests)
 
 -- an item k begins the bytes, v is what stands behind its colon, and the value has n bytes
 module _ (bs v : List ℕ) (i n : ℕ) (h : UserHeader) (k : Item) (nb : eqb (get_or bs 0 0) 125 ≡ false) (it : Some k ≡ item_of bs) (ev : v ≡ drop 5 bs) (en : n ≡ place 125 v) where
@@ -23,21 +46,18 @@ module _ (bs v : List ℕ) (i n : ℕ) (h : UserHeader) (k : Item) (nb : eqb (ge
   unclosed l = sym (item_step ∙ cond-false (ltb n (length v)) _ None (le-ltb n (length v) l))
 
   module _ (l : n < length v) where
-    open_step : step_at i bs h ≡ cond (value_ok k (take (n - 0) v)) (taken_at i n k h) None
-    open_step =
-        let z : n ≡ n - 0 = omega arith in
-        item_step ∙ cond-true (ltb n (length v)) _ None (lt-ltb n (length v) l)
-        ∙ (λ j. cond (value_ok k (take (z j) v)) (taken_at i n k h) None)
+    open_step : step_at i bs h ≡ cond (value_ok k (take n v)) (taken_at i n k h) None
+    open_step = item_step ∙ cond-true (ltb n (length v)) _ None (lt-ltb n (length v) l)
 
     -- the item does not take the value
-    pub refused : value_ok k (take (n - 0) v) ≡ false → None ≡ step_at i bs h
-    refused e = sym (open_step ∙ cond-false (value_ok k (take (n - 0) v)) _ None e)
+    pub refused : value_ok k (take n v) ≡ false → None ≡ step_at i bs h
+    refused e = sym (open_step ∙ cond-false (value_ok k (take n v)) _ None e)
 
     -- it does, and the value finds its place
-    pub placed : (h' : UserHeader) → value_ok k (take (n - 0) v) ≡ true → Some h' ≡ put_in k (record { at = i + 5; len = n }) h → Some (More h' (i + 6 + n)) ≡ step_at i bs h
+    pub placed : (h' : UserHeader) → value_ok k (take n v) ≡ true → Some h' ≡ put_in k (record { at = i + 5; len = n }) h → Some (More h' (i + 6 + n)) ≡ step_at i bs h
     placed h' e p =
         ap (λ o. and_then o (λ h''. Some (More h'' (i + 6 + n)))) p
-        ∙ sym (open_step ∙ cond-true (value_ok k (take (n - 0) v)) _ None e)
+        ∙ sym (open_step ∙ cond-true (value_ok k (take n v)) _ None e)
 
 -- ---- where a step leads
 
@@ -78,13 +98,14 @@ more_within i bs h h' j p =
 pub record Sofar (text : List ℕ) (at done i : ℕ) (h : UserHeader) : Type 0 where
   pub within : i ≤ length text
   pub few : done ≤ 5
-  pub left : steps_within (5 - done) text i h ≡ steps_within 5 text (at + 3) nothing
+  pub left : steps_within (5 - done) text i h ≡ user_at text at
 
-pub start : (text : List ℕ) (at : ℕ) → at + 3 ≤ length text → Sofar text at 0 (at + 3) nothing
-start text at l = record { within = l; few = omega arith; left = refl }
+pub start : (text : List ℕ) (at : ℕ) → starts (codes "{3:") (drop at text) ≡ true → Sofar text at 0 (at + 3) nothing
+start text at s =
+    record { within = omega (arith, starts_length (codes "{3:") (drop at text) s, length-drop at text); few = omega arith; left = sym (cond-true (starts (codes "{3:") (drop at text)) _ None s) }
 
 module _ (text : List ℕ) (at done i : ℕ) (h : UserHeader) (so : Sofar text at done i h) (l : done < 5) where
-  onward : (s : Option Step) → s ≡ step_at i (drop i text) h → steps_then (λ j h'. steps_within (5 - (done + 1)) text j h') h s ≡ steps_within 5 text (at + 3) nothing
+  pub onward : (s : Option Step) → s ≡ step_at i (drop i text) h → steps_then (λ j h'. steps_within (5 - (done + 1)) text j h') h s ≡ user_at text at
   onward s e =
       let one : suc (5 - (done + 1)) ≡ 5 - done = omega arith in
       ap (steps_then (λ j h'. steps_within (5 - (done + 1)) text j h') h) e ∙ ap (λ m. steps_within m text i h) one ∙ so.left
@@ -96,15 +117,3 @@ module _ (text : List ℕ) (at done i : ℕ) (h : UserHeader) (so : Sofar text a
         few = omega arith;
         left = onward (Some (More h' j)) e;
       }
-
-  pub at_close : (e : ℕ) → Some (Closed e) ≡ step_at i (drop i text) h → Some (record { header = h; end = e }) ≡ steps_within 5 text (at + 3) nothing
-  at_close e p = onward (Some (Closed e)) p
-
-  pub at_fault : None ≡ step_at i (drop i text) h → None ≡ steps_within 5 text (at + 3) nothing
-  at_fault p = onward None p
-
--- no fifth item
-pub too_many : (text : List ℕ) (at done i : ℕ) (h : UserHeader) → Sofar text at done i h → 5 ≤ done → None ≡ steps_within 5 text (at + 3) nothing
-too_many text at done i h so l =
-    let z : 0 ≡ 5 - done = omega (arith, so.few) in
-    ap (λ m. steps_within m text i h) z ∙ so.left

@@ -6,9 +6,15 @@ use Rattle.contents.specs.Digits.{number}
 use Rattle.contents.specs.Dates.{date_of}
 use Rattle.contents.specs.Times.{time_of}
 use Rattle.headers.specs.declared.application.Application.{Application}
+use Rattle.headers.specs.declared.application.Direction.{Direction}
 use Rattle.headers.specs.declared.application.Direction.TheVariants.{Input, Output}
 use Rattle.headers.specs.Parts.{cut, starts}
 use Rattle.headers.specs.Basic.{is_address, is_sender}
+
+-- how a direction is printed
+abbrev pub direction_word : Direction → List ℕ
+direction_word Input = codes "input"
+direction_word Output = codes "output"
 
 -- the end of a block 2: a priority, which is S, U or N, and '}' (125)
 abbrev pub is_end : List ℕ → Bool

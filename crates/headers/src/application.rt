@@ -1,18 +1,30 @@
 //! Block 2, the application header: direction, type, and for output where the text came from.
-ghost use Rattle.std.specs.Prelude.{◌≡◌, ◌≤◌, true, length};
+ghost use Rattle.std.specs.Prelude.{◌≡◌, ◌≤◌, true, length, Some};
 ghost use Rattle.mt_text.specs.Classes.{digit, every};
 ghost use Rattle.headers.specs.Parts.{cut};
-ghost use Rattle.headers.specs.Application.{is_end, is_input, is_date, is_time, is_origin, is_output, application_of, type_of};
+ghost use Rattle.headers.specs.Application.{is_end, is_input, is_origin, is_output, application_of, type_of, direction_word};
 
 use crate::basic::{is_address, is_sender};
-use contents::{read_date, read_time};
+use contents::{is_date, is_time};
 use mt_text::{Class, all_of, part};
+use std::fmt;
 
 // Whether a text goes to the settlement system or comes from it.
 #[derive(Clone, Copy, PartialEq, Eq, Debug)]
 pub enum Direction {
     Input,
     Output,
+}
+
+impl fmt::Display for Direction {
+    ghost output = { λ d. Some (direction_word d) };
+
+    fn fmt<W: fmt::Write>(&self, f: &mut fmt::Formatter<W>) -> fmt::Result {
+        f.write_str(match self {
+            Direction::Input => "input",
+            Direction::Output => "output",
+        })
+    }
 }
 
 // What block 2 tells: the direction, the type of the message, and how many bytes the block has.
@@ -32,7 +44,7 @@ fn is_end(bytes: &[u8]) -> bool
     requires { length bytes.now ≡ 2 }
     ensures { result ≡ is_end bytes.now }
 {
-    matches!(bytes[0], b'S' | b'U' | b'N') && bytes[1] == b'}'
+    matches!(bytes, [b'S' | b'U' | b'N', b'}'])
 }
 
 // Whether the bytes are a whole block 2 of an input text.
@@ -48,19 +60,8 @@ fn is_input_header(block: &[u8]) -> bool
     is_address(&block[7..19]) && is_end(&block[19..21])
 }
 
-fn is_date(bytes: &[u8]) -> bool
-    ensures { result ≡ is_date bytes.now }
-{
-    read_date(bytes).is_some()
-}
-
-fn is_time(bytes: &[u8]) -> bool
-    ensures { result ≡ is_time bytes.now }
-{
-    read_time(bytes).is_some()
-}
-
 // Where an output text came from: time, date and sender of the input, then date and time of the output.
+#[tactic(auto, unfolding(crate::specs::Application::is_date, crate::specs::Application::is_time))]
 fn is_origin(bytes: &[u8]) -> bool
     ensures { result ≡ is_origin bytes.now }
 {
@@ -92,7 +93,8 @@ fn is_output_header(block: &[u8]) -> bool
     is_origin(&block[7..49]) && is_end(&block[49..51])
 }
 
-// The type of the message that a block 2 tells.
+// The type of the message that a block 2 tells: its three digits, each by its name, where a loop would
+// be no shorter and would have to say that the sum stays small.
 fn type_of(block: &[u8]) -> u16
     requires long { 7 ≤ length block.now }
     requires digits { every digit (cut 4 7 block.now) ≡ true }

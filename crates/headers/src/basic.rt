@@ -5,7 +5,7 @@ ghost use Rattle.headers.specs.Basic.{is_address, is_sender, is_basic};
 use mt_text::{Class, all_of};
 
 // How many bytes block 1 has.
-pub(crate) const BASIC_WIDTH: usize = 29;
+pub const BASIC_WIDTH: usize = 29;
 
 // An address: six capitals, then six capitals or digits.
 pub(crate) fn is_address(bytes: &[u8]) -> bool

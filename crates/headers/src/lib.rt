@@ -3,11 +3,10 @@
 
 mod application;
 mod basic;
-mod parts;
 mod trailer;
 mod user;
 
 pub use application::{Application, Direction, read_application};
-pub use basic::is_basic_header;
-pub use trailer::is_trailer;
+pub use basic::{BASIC_WIDTH, is_basic_header};
+pub use trailer::{TRAILER_WIDTH, is_trailer};
 pub use user::{Item, Span, Step, UserBlock, UserHeader, read_user_header};

@@ -4,11 +4,14 @@ ghost use Rattle.headers.specs.Trailer.{is_trailer};
 
 use mt_text::{Class, all_of};
 
+// How many bytes block 5 has.
+pub const TRAILER_WIDTH: usize = 22;
+
 // Whether the bytes are a whole block 5.
 pub fn is_trailer(block: &[u8]) -> bool
     ensures { result ≡ is_trailer block.now }
 {
-    if block.len() != 22 || !block.starts_with(b"{5:{CHK:") {
+    if block.len() != TRAILER_WIDTH || !block.starts_with(b"{5:{CHK:") {
         return false;
     }
     if !all_of(Class::Hex, &block[8..20]) {

@@ -1,10 +1,11 @@
 //! Block 3, the user header: up to four items, each at most once, in any order.
-ghost use Rattle.std.specs.Prelude.{◌≡◌, ◌+◌, ◌^◌, ◌<◌, length};
+ghost use Rattle.std.specs.Prelude.{◌≡◌, ◌==◌, ◌+◌, ◌^◌, ◌<◌, length, position};
 ghost use Rattle.headers.specs.User.{small_hex, hyphen_place, tracked, value_ok, item_of, put_in, is_given, closed_at, step_at, user_at};
 
-use crate::parts::begins;
-use contents::place_of;
-use mt_text::{Class, all_of, byte_at, rest};
+use mt_text::{Class, all_of, byte_at, part, rest};
+
+// At most four items and the closing brace.
+const MAX_STEPS: usize = 5;
 
 // Where a value stands in the text.
 #[derive(Clone, Copy, PartialEq, Eq, Debug)]
@@ -14,7 +15,7 @@ pub struct Span {
 }
 
 // The values of block 3 that are given.
-#[derive(Clone, Copy, PartialEq, Eq, Debug)]
+#[derive(Clone, Copy, PartialEq, Eq, Debug, Default)]
 pub struct UserHeader {
     // item 108
     pub user_reference: Option<Span>,
@@ -42,7 +43,8 @@ pub enum Item {
     Tracking,
 }
 
-// One step through block 3: an item, or its closing brace.
+// One step through block 3: an item, or its closing brace. Not a `ControlFlow`, whose pair of a header
+// and an offset would have no names.
 #[derive(Clone, Copy, PartialEq, Eq, Debug)]
 pub enum Step {
     More { header: UserHeader, next: usize },
@@ -65,18 +67,13 @@ fn is_hyphen_place(i: usize) -> bool
 fn is_tracked(value: &[u8]) -> bool
     ensures { result ≡ tracked 0 value.now }
 {
-    for i in 0..value.len() {
-        let b = value[i];
-        let fits = if is_hyphen_place(i) {
-            b == b'-'
+    value.iter().enumerate().all(|(i, b)| {
+        if is_hyphen_place(i) {
+            *b == b'-'
         } else {
-            is_small_hex(b)
-        };
-        if !fits {
-            return false;
+            is_small_hex(*b)
         }
-    }
-    true
+    })
 }
 
 impl Item {
@@ -86,7 +83,7 @@ impl Item {
     {
         let len = value.len();
         match self {
-            Item::UserReference => len >= 1 && len <= 16 && all_of(Class::Printable, value),
+            Item::UserReference => (1..=16).contains(&len) && all_of(Class::Printable, value),
             Item::ServiceType => len == 3 && all_of(Class::Digit, value),
             Item::Priority => len == 4 && all_of(Class::LetterOrDigit, value),
             Item::Tracking => len == 36 && is_tracked(value),
@@ -98,41 +95,27 @@ impl Item {
 fn item_of(bytes: &[u8]) -> Option<Item>
     ensures { result ≡ item_of bytes.now }
 {
-    if begins(bytes, b"{108:") {
-        Some(Item::UserReference)
-    } else if begins(bytes, b"{111:") {
-        Some(Item::ServiceType)
-    } else if begins(bytes, b"{113:") {
-        Some(Item::Priority)
-    } else if begins(bytes, b"{121:") {
-        Some(Item::Tracking)
-    } else {
-        None
+    match part(bytes, 0, 5) {
+        b"{108:" => Some(Item::UserReference),
+        b"{111:" => Some(Item::ServiceType),
+        b"{113:" => Some(Item::Priority),
+        b"{121:" => Some(Item::Tracking),
+        _ => None,
     }
 }
 
 impl UserHeader {
     // The header with one value more; none where the item has a value already.
-    fn with(self, item: Item, value: Span) -> Option<UserHeader>
+    fn with(mut self, item: Item, value: Span) -> Option<UserHeader>
         ensures { result ≡ put_in item value self }
     {
-        let given = match item {
-            Item::UserReference => self.user_reference.is_some(),
-            Item::ServiceType => self.service_type.is_some(),
-            Item::Priority => self.priority.is_some(),
-            Item::Tracking => self.tracking.is_some(),
+        let earlier = match item {
+            Item::UserReference => self.user_reference.replace(value),
+            Item::ServiceType => self.service_type.replace(value),
+            Item::Priority => self.priority.replace(value),
+            Item::Tracking => self.tracking.replace(value),
         };
-        if given {
-            return None;
-        }
-        let mut header = self;
-        match item {
-            Item::UserReference => header.user_reference = Some(value),
-            Item::ServiceType => header.service_type = Some(value),
-            Item::Priority => header.priority = Some(value),
-            Item::Tracking => header.tracking = Some(value),
-        }
-        Some(header)
+        if earlier.is_some() { None } else { Some(self) }
     }
 
     // Whether any value is given.
@@ -150,11 +133,14 @@ impl UserHeader {
 fn closed(header: UserHeader, end: usize) -> Option<Step>
     ensures { result ≡ closed_at end header }
 {
-    if header.is_given() {
-        Some(Step::Closed { end })
-    } else {
-        None
-    }
+    header.is_given().then_some(Step::Closed { end })
+}
+
+// Where the brace stands that closes a value; none where it is not closed.
+fn closing_brace(value: &[u8]) -> Option<usize>
+    ensures { result ≡ position (λ b. b == 125) value.now }
+{
+    value.iter().position(|b| *b == b'}')
 }
 
 // One step through block 3, whose rest is these bytes at an offset, with the values so far.
@@ -167,11 +153,8 @@ fn step_at(bytes: &[u8], at: usize, header: UserHeader) -> Option<Step>
     }
     let item = item_of(bytes)?;
     let value = rest(bytes, 5);
-    let len = place_of(b'}', value);
-    if len >= value.len() {
-        return None;
-    }
-    if !item.takes(&value[0..len]) {
+    let len = closing_brace(value)?;
+    if !item.takes(&value[..len]) {
         return None;
     }
     let header = header.with(item, Span { at: at + 5, len })?;
@@ -185,19 +168,12 @@ fn step_at(bytes: &[u8], at: usize, header: UserHeader) -> Option<Step>
 pub fn read_user_header(text: &[u8], at: usize) -> Option<UserBlock>
     ensures { result ≡ user_at text.now at }
 {
-    if !begins(rest(text, at), b"{3:") {
+    if !rest(text, at).starts_with(b"{3:") {
         return None;
     }
-    let mut header = UserHeader {
-        user_reference: None,
-        service_type: None,
-        priority: None,
-        tracking: None,
-    };
+    let mut header = UserHeader::default();
     let mut from = at + 3;
-    // at most four items and the closing brace
-    let mut steps = 0usize;
-    while steps < 5 {
+    for _ in 0..MAX_STEPS {
         match step_at(rest(text, from), from, header)? {
             Step::More { header: more, next } => {
                 header = more;
@@ -205,7 +181,6 @@ pub fn read_user_header(text: &[u8], at: usize) -> Option<UserBlock>
             }
             Step::Closed { end } => return Some(UserBlock { header, end }),
         }
-        steps += 1;
     }
     None
 }

@@ -29,7 +29,7 @@ use Rattle.layout.specs.declared.walk.Layout.{Layout}
 use Rattle.layout.specs.declared.walk.Opening.{Opening}
 use Rattle.layout.specs.Walk.{heed, wanted, opened, application_at, opening_at, body_start, end_at, made_of, walked}
 use Rattle.layout.specs.Render.{ValueFits, UserOk, UserFits, bytes_at, values_of, fields_of, parts_of, PartsOk, Accepted}
-use Rattle.layout.proofs.UserTrips.{putted}
+use Rattle.layout.proofs.UserTrips.{putted, some_mapped}
 
 -- ---- the values of block 3
 
@@ -116,10 +116,6 @@ one_back n text i h b ih ok None p q = absurd (grind arith)
 steps_back : (n : ℕ) (text : List ℕ) (i : ℕ) (h : UserHeader) (b : UserBlock) → SlotsOk text h → steps_within n text i h ≡ Some b → HeaderOk text b
 steps_back zero text i h b ok e = absurd (grind arith)
 steps_back (suc n) text i h b ok e = one_back n text i h b (λ j h'. steps_back n text j h' b) ok (step_at i (drop i text) h) refl e
-
-some_mapped : {X Y : Type 0} (f : X → Y) (x : Option X) → is_some (option_map f x) ≡ is_some x
-some_mapped f (Some a) = refl
-some_mapped f None = refl
 
 user_back : (text : List ℕ) (i : ℕ) (b : UserBlock) → user_at text i ≡ Some b → UserOk (values_of text b.header)
 user_back text i b e = by (starts (codes "{3:") (drop i text)) e

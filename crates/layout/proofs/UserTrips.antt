@@ -82,8 +82,7 @@ module _ (k : Item) (v after : List ℕ) (ok : value_ok k v ≡ true) (i : ℕ) 
   item_in : (bs : List ℕ) → eqb (get_or bs 0 0) 125 ≡ false → Some k ≡ item_of bs → v ++ 125 ∷ after ≡ drop 5 bs → step_at i bs h ≡ Some (More (putted k here h) (i + 6 + length v))
   item_in bs nb it ev =
       let long = length-append v (125 ∷ after) in
-      let z : length v - 0 ≡ length v = omega arith in
-      let val : take (length v - 0) (v ++ 125 ∷ after) ≡ v = ap (λ n. take n (v ++ 125 ∷ after)) z ∙ take_at v (125 ∷ after) (length v) refl in
+      let val = take_at v (125 ∷ after) (length v) refl in
       sym (placed bs (v ++ 125 ∷ after) i (length v) h k nb it ev (sym (value_place k v after ok)) (omega arith) (putted k here h) (ap (value_ok k) val ∙ ok) (sym (put_free k here h free)))
 
 item_step : (k : Item) (v after : List ℕ) (ok : value_ok k v ≡ true) (i : ℕ) (h : UserHeader) (free : slot k h ≡ None) → step_at i (word k ++ (v ++ 125 ∷ after)) h ≡ Some (More (putted k (record { at = i + 5; len = length v }) h) (i + 6 + length v))
@@ -136,12 +135,12 @@ stage text k (Some v) i h after ok free is =
 
 -- ---- all four
 
+pub some_mapped : {X Y : Type 0} (f : X → Y) (x : Option X) → is_some (option_map f x) ≡ is_some x
+some_mapped f (Some a) = refl
+some_mapped f None = refl
+
 some_kept : {X Y : Type 0} (f : X → Y) (x : Option X) (y : Option Y) → option_map f x ≡ y → is_some x ≡ is_some y
-some_kept f x y e = by x ∙ ap is_some e
-  where
-    by : (x : Option _) → is_some x ≡ is_some (option_map f x)
-    by (Some a) = refl
-    by None = refl
+some_kept f x y e = sym (some_mapped f x) ∙ ap is_some e
 
 -- what one item leaves of another's place
 kept : (k k' : Item) (o : Option (List ℕ)) (i : ℕ) (h : UserHeader) → ((s : Span) (g : UserHeader) → slot k' (putted k s g) ≡ slot k' g) → slot k' (next_with k o i h) ≡ slot k' h

@@ -6,13 +6,13 @@ ghost use Rattle.layout.specs.Render.{RoundTrip, Accepted};
 
 use fields::read_body;
 use headers::{
-    Application, Direction, UserHeader, is_basic_header, is_trailer, read_application,
-    read_user_header,
+    Application, BASIC_WIDTH, Direction, TRAILER_WIDTH, UserHeader, is_basic_header, is_trailer,
+    read_application, read_user_header,
 };
 use mt_text::{Fault, check_bytes, part, rest};
 
 // What a well laid out text is made of. Offsets count from its first byte.
-#[derive(Clone, Copy, PartialEq, Debug)]
+#[derive(Clone, Copy, PartialEq, Eq, Debug)]
 pub struct Layout {
     pub direction: Direction,
     pub message_type: u16,
@@ -29,20 +29,23 @@ pub struct Layout {
 }
 
 // Block 3, if it is there, and where block 4 should begin.
-#[derive(Clone, Copy, PartialEq, Debug)]
+#[derive(Clone, Copy, PartialEq, Eq, Debug)]
 pub struct Opening {
     pub user: Option<UserHeader>,
     pub at: usize,
 }
 
+// The text and an offset stay two arguments, as the calls of `fields` and `headers` take them: a struct
+// around the two would be made and taken apart again at each of these calls.
+
 // Block 2, behind block 1.
 fn application_at(text: &[u8]) -> Result<Application, Fault>
     ensures { told result ≡ application_at text.now }
 {
-    if !is_basic_header(part(text, 0, 29)) {
+    if !is_basic_header(part(text, 0, BASIC_WIDTH)) {
         return Err(Fault::Block { at: 0 });
     }
-    read_application(rest(text, 29)).ok_or(Fault::Block { at: 29 })
+    read_application(rest(text, BASIC_WIDTH)).ok_or(Fault::Block { at: BASIC_WIDTH })
 }
 
 // Block 3 at an offset, which may be absent.
@@ -78,22 +81,25 @@ fn end_at(text: &[u8], at: usize) -> Result<(), Fault>
     if left.is_empty() {
         return Ok(());
     }
-    if !is_trailer(part(left, 0, 22)) {
+    if !is_trailer(part(left, 0, TRAILER_WIDTH)) {
         return Err(Fault::Block { at });
     }
-    if left.len() > 22 {
-        return Err(Fault::Block { at: at + 22 });
+    if left.len() > TRAILER_WIDTH {
+        return Err(Fault::Block {
+            at: at + TRAILER_WIDTH,
+        });
     }
     Ok(())
 }
 
-// The checks and blocks in their order.
+// The checks and blocks in their order. Apart from `lay_out`, which has one return and not one at each `?`,
+// so that its laws are proved once.
 fn walk(text: &[u8]) -> Result<Layout, Fault>
     ensures { told result ≡ laid_out text.now }
 {
     check_bytes(text)?;
     let application = application_at(text)?;
-    let headers_end = 29 + application.width;
+    let headers_end = BASIC_WIDTH + application.width;
     let opening = opening_at(text, headers_end)?;
     let body = body_start(text, opening.at)?;
     let lines = read_body(text, body)?;

@@ -126,6 +126,14 @@ mod tests {
     }
 
     #[test]
+    fn directions_are_printed(rt: HostRuntime) -> Result<(), Fail> {
+        let alloc = rt.alloc();
+        assert_eq!(rt; Direction::Input.to_string(alloc)?.as_str(), "input");
+        assert_eq!(rt; Direction::Output.to_string(alloc)?.as_str(), "output");
+        Ok(())
+    }
+
+    #[test]
     fn headers_and_the_trailer(rt: HostRuntime) {
         let application = Application {
             direction: Direction::Input,

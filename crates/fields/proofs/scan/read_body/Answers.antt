@@ -28,9 +28,6 @@ found c = ap Ok (sym c.in-More.is) ∙ c.in_ok-field.ensures
 inside : (c : In-More) → (c.loop-field.from < behind c.in-More.field) × (behind c.in-More.field ≤ length c.args.text.now)
 inside c = field_within c.args.text.now c.loop-field.from c.in-More.field (found c)
 
-pub overflow_add-fields : goal.overflow_add-fields
-overflow_add-fields c = omega (arith, inside c, c.loop-field.invariant.few)
-
 -- the line behind it
 next : (c : After-behind-from) → c.behind-from.result ≡ behind c.in-More.field
 next c = omega (arith, inside (goal.at.After-behind-from c).In-More, c.behind-from.ensures)

@@ -1,19 +1,19 @@
-use Rattle.std.proofs.Common.{◌≡◌, ℕ, ◌+◌, ◌<◌, ◌≤◌, true, cond, ◌&&◌, eqb, List, length, get_or, drop, rules}
-use Rattle.std.proofs.lemmas.List.{at_drop_more, at_drop_all}
+use Rattle.std.proofs.Common.{◌≡◌, ℕ, ◌+◌, Bool, cond, ◌&&◌, eqb, List, [], ◌∷◌, rules, tests, refl, ap, ◌∙◌}
+use Rattle.std.specs.List.{enumerate_from, list_all}
+use Rattle.std.proofs.lemmas.Iterator.{YieldsList-from_slice}
+use Rattle.std.proofs.lemmas.Iterator.Consumers.{YieldsList-from_enumerate}
+use Rattle.std.proofs.lemmas.Iterator.Search.{all_from_yields_List}
 use Rattle.headers.specs.User.{tracked, hyphen_place, small_hex}
 use Rattle.headers.proofs.user.is_tracked.Goals as goal
 
-more : (bs : List ℕ) (i : ℕ) → i < length bs → tracked i (drop i bs) ≡ (cond (hyphen_place i) (eqb (get_or bs i 0) 45) (small_hex (get_or bs i 0)) && tracked (i + 1) (drop (i + 1) bs))
-more bs i h = at_drop_more (tracked i) bs i 0 h
+abbrev fits : ℕ × ℕ → Bool
+fits x = cond (hyphen_place x.0) (eqb x.1 45) (small_hex x.1)
 
-all : (bs : List ℕ) (i : ℕ) → length bs ≤ i → tracked i (drop i bs) ≡ true
-all bs i h = at_drop_all (tracked i) bs i h
-
-pub returns-then-not-fits : goal.returns-then-not-fits
-returns-then-not-fits c = search (rules, more)
-
-pub loop-i-preserved : goal.loop-i-preserved
-loop-i-preserved c = search (rules, more)
+all_fit : (i : ℕ) (bs : List ℕ) → list_all fits (enumerate_from i bs) ≡ tracked i bs
+all_fit i [] = refl
+all_fit i (b ∷ bs) = ap (λ x. fits (i, b) && x) (all_fit (i + 1) bs)
 
 pub returns : goal.returns
-returns c = search (rules, all)
+returns c =
+    all_from_yields_List fits _ _ c.all.result c.all.ensures.ran (YieldsList-from_enumerate (YieldsList-from_slice c.args.value.now cc) cc) (λ x b q k. search (rules, tests))
+    ∙ all_fit 0 c.args.value.now
