@@ -18,8 +18,8 @@ mod kept;
 
 use escape::Escape;
 use fronts::Front;
-use headers::Direction;
 use kept::{KEPT, whole_layout};
+use layout::Layout;
 use std::io;
 use std::io::{BufReader, BufWriter, Read, Write};
 
@@ -66,21 +66,15 @@ fn answer<W: Write + Drop>(line: &Line, out: &mut BufWriter<W>) -> io::Result<()
     }
     match whole_layout(&line.text) {
         Ok(layout) => {
-            let direction = match layout.direction {
-                Direction::Input => "input",
-                Direction::Output => "output",
-            };
-            let message_type = layout.message_type;
-            let fields = layout.fields;
+            let Layout {
+                direction,
+                message_type,
+                fields,
+                ..
+            } = layout;
             writeln!(out, "{direction} {message_type:03}, {fields} fields")
         }
-        Err(fault) => {
-            let number = fault.number();
-            match fault.offset() {
-                Some(at) => writeln!(out, "refused {number} at {at}"),
-                None => writeln!(out, "refused {number}"),
-            }
-        }
+        Err(fault) => writeln!(out, "{fault}"),
     }
 }
 
