@@ -23,6 +23,7 @@ fn answer<W: Write + Drop>(
     tally: &mut Tally,
     out: &mut BufWriter<W>,
 ) -> io::Result<()> {
+    // fixed memory: the call writes into what its caller lends
     let mut normal = [0u8; MAX_AMOUNT];
     match (
         amount(line),

@@ -5,7 +5,8 @@ ghost use Rattle.books.specs.Calls.{left, left_by, AllApart};
 use crate::book::Book;
 use crate::keys::Key;
 
-// A call that may alter a book; the others leave it as it is.
+// A call that may alter a book; the others leave it as it is. An enum and no closure, since the law
+// speaks of every list of calls.
 #[derive(Clone, Copy)]
 pub enum Call<K, R> {
     Put { account: usize, key: K, record: R },

@@ -12,7 +12,8 @@ pub enum OrderType {
 }
 
 impl OrderType {
-    // The type's number: 103 for a customer's order, 202 for a bank's own.
+    // The type's number: 103 for a customer's order, 202 for a bank's own. A method and no conversion, since
+    // `u16::from(kind)` would not say which number.
     pub fn number(self) -> u16
         ensures { result ≡ type_number self }
     {
@@ -34,7 +35,7 @@ pub enum State {
 }
 
 impl State {
-    // The state's number, 1 to 5.
+    // The state's number, 1 to 5; a method for the same reason.
     pub fn number(self) -> u8
         ensures { result ≡ state_number self }
     {

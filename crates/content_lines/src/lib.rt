@@ -1,4 +1,7 @@
 //! Field formats made of whole lines, and what every field format owes.
+//!
+//! Each writing call names its own format in its three clauses. A trait over the formats would say them
+//! once, but what a format tells may borrow the content, and a trait here has no type with a lifetime.
 #![tactic(auto)]
 
 mod customers;

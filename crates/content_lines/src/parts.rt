@@ -5,6 +5,8 @@ ghost use Rattle.mt_text.specs.Lent.{fitted, overwritten};
 
 use mt_text::{Fault, put_front};
 
+// A test and the content stand beside each other, and not an Option of it: the callers have a test.
+
 // Writes an accepted content at the front of the buffer and answers its length. Refuses by 9 at 0
 // what is not accepted and by 14 a buffer that is too short; the buffer is then as it was.
 pub fn put_accepted(accepted: bool, content: &[u8], buffer: &mut [u8]) -> Result<usize, Fault>

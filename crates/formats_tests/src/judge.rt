@@ -7,6 +7,7 @@ use content_money::{
     write_statement_number,
 };
 use content_party::{Places, read_party, write_party};
+use fronts::Front;
 use mt_text::Fault;
 
 // The formats of the tables.
@@ -59,27 +60,23 @@ pub fn write_normal(kind: Kind, content: &[u8], buffer: &mut [u8]) -> Result<usi
 // Whether the format judges every content of a list as expected. In a list `~` divides the
 // contents and `|` stands for CR LF.
 pub fn all_judged(kind: Kind, expected: bool, list: &[u8]) -> bool {
-    let mut content = [0u8; 256];
-    let mut len = 0;
+    let mut content = Front::<256>::new();
     for b in list {
-        if len > 254 {
-            return false;
-        }
-        if *b == b'~' {
-            if is_accepted(kind, &content[..len]) != expected {
-                return false;
+        match b {
+            b'~' => {
+                if is_accepted(kind, content.as_slice()) != expected {
+                    return false;
+                }
+                content.clear();
             }
-            len = 0;
-        } else if *b == b'|' {
-            content[len] = b'\r';
-            content[len + 1] = b'\n';
-            len += 2;
-        } else {
-            content[len] = *b;
-            len += 1;
+            b'|' => {
+                content.push(b'\r');
+                content.push(b'\n');
+            }
+            _ => content.push(*b),
         }
     }
-    len <= 256 && is_accepted(kind, &content[..len]) == expected
+    is_accepted(kind, content.as_slice()) == expected
 }
 
 // Whether the format writes this normal content, and refuses a buffer that is a byte too short.

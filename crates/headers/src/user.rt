@@ -7,7 +7,7 @@ use mt_text::{Class, all_of, byte_at, part, rest};
 // At most four items and the closing brace.
 const MAX_STEPS: usize = 5;
 
-// Where a value stands in the text.
+// Where a value stands in the text: an offset and no part of the text, since a layout is kept without it.
 #[derive(Clone, Copy, PartialEq, Eq, Debug)]
 pub struct Span {
     pub at: usize,
