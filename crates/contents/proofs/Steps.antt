@@ -2,7 +2,7 @@
 use Rattle.std.proofs.Common.{◌≡◌, ℕ, zero, suc, min, ◌+◌, ◌-◌, ◌*◌, ◌^◌, ◌<◌, ◌≤◌, Bool, true, false, cond, ◌&&◌, eqb, ltb, List, [], ◌∷◌, ◌++◌, length, get_or, take, drop, Some, None, Option, sym, refl, ap, ◌∙◌, subst, arith}
 use native.Mathlib.Nat.{pow-le-pow_right}
 use Rattle.std.proofs.lemmas.Nat.{pow-add}
-use Rattle.std.proofs.lemmas.List.{at_drop_more, at_drop_all, take_more, take_all}
+use Rattle.std.proofs.lemmas.List.{take_more, take_all}
 use Rattle.std.specs.List.{prefix_len, suffix_len, position_or_len}
 use Rattle.std.proofs.lemmas.List.Recursion.{is_position_or_len}
 use Rattle.std.proofs.lemmas.List.Sums.{suffix_len-take_yes, suffix_len-take_no}
@@ -21,19 +21,6 @@ place_is_position b bs = is_position_or_len (place b) (λ c. eqb c b) refl (λ c
 -- the number that the digits write behind those that write n, if they are digits
 abbrev pub reads : ℕ → List ℕ → Option ℕ
 reads n ds = cond (every digit ds) (Some (number_after n ds)) None
-
-cond_and : {X : Type 0} (a b : Bool) (x y : X) → cond (a && b) x y ≡ cond a (cond b x y) y
-cond_and true b x y = refl
-cond_and false b x y = refl
-
-reads_cons : (n d : ℕ) (ds : List ℕ) → reads n (d ∷ ds) ≡ cond (digit d) (reads (n * 10 + (d - 48)) ds) None
-reads_cons n d ds = cond_and (digit d) (every digit ds) _ None
-
-pub reads_more : (n : ℕ) (ds : List ℕ) (i : ℕ) → i < length ds → reads n (drop i ds) ≡ cond (digit (get_or ds i 0)) (reads (n * 10 + (get_or ds i 0 - 48)) (drop (i + 1) ds)) None
-reads_more n ds i h = at_drop_more (reads n) ds i 0 h ∙ reads_cons n (get_or ds i 0) (drop (i + 1) ds)
-
-pub reads_all : (n : ℕ) (ds : List ℕ) (i : ℕ) → length ds ≤ i → reads n (drop i ds) ≡ Some n
-reads_all n ds i h = at_drop_all (reads n) ds i h
 
 -- i digits write a number below 10 ^ i, and nineteen of them one that 64 bits hold
 pub below_more : (n i d : ℕ) → n < 10 ^ i → d ≤ 9 → n * 10 + d < 10 ^ (i + 1)

@@ -5,7 +5,7 @@ use Rattle.contents.specs.Amounts.{normal}
 use Rattle.content_lines.proofs.Writing.{wrote_answer, wrote_buffer, is_told}
 use Rattle.content_money.specs.Money.{amount_part}
 use Rattle.content_money.specs.Balances.{balance_of, normal_mark, balance_normal, balance_format}
-use Rattle.content_money.proofs.Dated.{dated_told, part_told}
+use Rattle.content_money.proofs.Dated.{part_told}
 use Rattle.content_money.proofs.BalanceLaws.{Told, balance_told, balance_lawful, mark_written}
 use Rattle.content_money.proofs.balances.write_balance.Goals as goal
 use Rattle.content_money.proofs.balances.write_balance.Goals.{In_ok-balance}
@@ -27,13 +27,6 @@ returns-in_err-amount c =
     let none : None ≡ amount_part (take (length bs - 1) (drop 1 bs)) = search rules in
     let e = none ∙ ap amount_part (take_rest bs 1) ∙ part_told c.args.currency (drop 1 bs) t.amount t.dated in
     absurd (grind arith)
-
-pub slice_bounds-put_parts-end-2 : goal.slice_bounds-put_parts-end-2
-slice_bounds-put_parts-end-2 c =
-    let t = told (goal.at.slice_bounds-put_parts-end-2 c).In_ok-balance in
-    let l = (dated_told c.args.currency (drop 1 c.args.content.now) t.amount t.dated).long in
-    let x = ap length (take_rest c.args.content.now 1) in
-    search rules
 
 pub returns : goal.returns
 returns c =
