@@ -6,7 +6,8 @@ ghost use Rattle.books.specs.Keys.{alike};
 pub trait Key: Copy {
     ghost says: { Self → List ℕ };
 
-    // Whether the two keys say the same.
+    // Whether the two keys say the same. A method beside a derived `==`, which alone would need a second law to
+    // tie it to what a key says.
     fn same(&self, other: &Self) -> bool
         ensures { result ≡ alike (says self.now) (says other.now) };
 

@@ -32,9 +32,7 @@ fn references(rt: HostRuntime) {
 
 #[test]
 fn short_buffers(rt: HostRuntime) -> Result<(), Fail> {
-    let Some(reference) = Reference::read(b"ABCDEFGHIJ") else {
-        return Err(Fail::new("no reference"));
-    };
+    let reference = Reference::read(b"ABCDEFGHIJ").ok_or(Fail::new("no reference"))?;
     let mut short = [b'#'; 9];
     assert!(rt; matches!(reference.write(&mut short), Err(Fault::ShortBuffer)));
     assert!(rt; short == [b'#'; 9]);
@@ -91,9 +89,7 @@ fn numbers_of_states(rt: HostRuntime) {
 #[test]
 fn replayed(rt: HostRuntime) -> Result<(), Fail> {
     let entry = cell::<Number, Statement>()?;
-    let Some(other) = Number::new(7) else {
-        return Err(Fail::new("no number"));
-    };
+    let other = Number::new(7).ok_or(Fail::new("no number"))?;
     let mut cells = [entry; 16];
     let mut book = Shares::over(&mut cells);
     let record = entry.record;

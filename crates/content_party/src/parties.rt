@@ -6,7 +6,7 @@ ghost use Rattle.content_lines.specs.Formats.{Lawful, answer, written};
 ghost use Rattle.content_party.specs.Parties.{places_fit, is_code, account_at, account_in, party_of, parts_of, filling, party_format};
 
 use content_lines::{first_end, first_line, is_line, next_line, put_parts};
-use mt_text::{Class, Fault, all_of, byte_at, is_capital};
+use mt_text::{Class, Fault, all_of};
 
 // How many places a bank code may have.
 #[derive(Clone, Copy, PartialEq, Eq, Debug)]
@@ -38,7 +38,8 @@ fn is_length(places: Places, len: usize) -> bool
     }
 }
 
-// Whether the bytes are a bank code: six capitals, then capitals and digits.
+// Whether the bytes are a bank code: six capitals, then capitals and digits. An address of a header is
+// another format, of another length, though it has the same two classes.
 fn is_code(places: Places, code: &[u8]) -> bool
     ensures { result ≡ is_code places code.now }
 {
@@ -51,7 +52,7 @@ fn is_code(places: Places, code: &[u8]) -> bool
 fn account_start(line: &[u8]) -> usize
     ensures { result ≡ account_at line.now }
 {
-    if is_capital(byte_at(line, 1)) && byte_at(line, 2) == b'/' {
+    if matches!(line, [_, b'A'..=b'Z', b'/', ..]) {
         3
     } else {
         1
@@ -64,7 +65,7 @@ fn read_account(line: &[u8]) -> Option<Part<'_>>
     ensures place { IfSome result (λ x. x.at ≡ account_at line.now) }
 {
     let at = account_start(line);
-    if byte_at(line, 0) != b'/' || at > line.len() {
+    if !line.starts_with(b"/") || at > line.len() {
         return None;
     }
     let bytes = &line[at..];

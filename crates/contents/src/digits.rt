@@ -2,22 +2,17 @@
 ghost use Rattle.std.specs.Prelude.{◌≡◌, ◌+◌, ◌^◌, ◌<◌};
 ghost use Rattle.contents.specs.Digits.{pair, number_of, place};
 
-use mt_text::is_digit;
+use mt_text::{is_digit, rest};
 
 // The two digits at a place as a number; none where one of them is no digit or past the end.
 pub(crate) fn pair_at(text: &[u8], at: usize) -> Option<u8>
-    requires { at + 1 < 2 ^ 64 }
     ensures { result ≡ pair at text.now }
 {
-    if at + 1 >= text.len() {
-        return None;
-    }
-    let tens = text[at];
-    let units = text[at + 1];
-    if is_digit(tens) && is_digit(units) {
-        Some((tens - b'0') * 10 + (units - b'0'))
-    } else {
-        None
+    match rest(text, at) {
+        [tens @ b'0'..=b'9', units @ b'0'..=b'9', ..] => {
+            Some((*tens - b'0') * 10 + (*units - b'0'))
+        }
+        _ => None,
     }
 }
 
@@ -38,8 +33,8 @@ pub fn read_number(digits: &[u8]) -> Option<u64>
     Some(number)
 }
 
-// Where the byte first stands, or the text's length: a line ends at its CR or with the text, so that
-// an Option would be turned into the length by each caller.
+// Where the byte first stands, or the text's length: a line, digits and the like end there in either
+// case, so that the place is an answer and none is missing.
 pub fn place_of(b: u8, text: &[u8]) -> usize
     ensures { result ≡ place b text.now }
 {

@@ -10,7 +10,7 @@ use content_party::{Places, read_party, write_party};
 use fronts::Front;
 use mt_text::Fault;
 
-// The formats of the tables.
+// The formats of the tables, named by them; what is asked of each is in the two functions below.
 #[derive(Clone, Copy)]
 pub enum Kind {
     Lines(Lines),
@@ -62,6 +62,9 @@ pub fn write_normal(kind: Kind, content: &[u8], buffer: &mut [u8]) -> Result<usi
 pub fn all_judged(kind: Kind, expected: bool, list: &[u8]) -> bool {
     let mut content = Front::<256>::new();
     for b in list {
+        if content.as_slice().len() > 254 {
+            return false;
+        }
         match b {
             b'~' => {
                 if is_accepted(kind, content.as_slice()) != expected {

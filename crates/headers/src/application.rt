@@ -31,6 +31,7 @@ impl fmt::Display for Direction {
 #[derive(Clone, Copy, PartialEq, Eq, Debug)]
 pub struct Application {
     pub direction: Direction,
+    // any three digits: only a module knows which types there are
     pub message_type: u16,
     pub width: usize,
 }

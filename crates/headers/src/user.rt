@@ -122,10 +122,7 @@ impl UserHeader {
     fn is_given(self) -> bool
         ensures { result ≡ is_given self }
     {
-        self.user_reference.is_some()
-            || self.service_type.is_some()
-            || self.priority.is_some()
-            || self.tracking.is_some()
+        self != UserHeader::default()
     }
 }
 
@@ -164,7 +161,8 @@ fn step_at(bytes: &[u8], at: usize, header: UserHeader) -> Option<Step>
     })
 }
 
-// Block 3 at an offset: its values and its end, if it is one.
+// Block 3 at an offset of a text, in which its values are told by their offsets: its values and its end,
+// if it is one.
 pub fn read_user_header(text: &[u8], at: usize) -> Option<UserBlock>
     ensures { result ≡ user_at text.now at }
 {

@@ -15,6 +15,7 @@ use mt_text::{Fault, check_bytes, part, rest};
 #[derive(Clone, Copy, PartialEq, Eq, Debug)]
 pub struct Layout {
     pub direction: Direction,
+    // any three digits: only a module knows which types there are
     pub message_type: u16,
     // where blocks 1 and 2 end
     pub headers_end: usize,

@@ -159,7 +159,7 @@ mod tests {
             len: 2,
         };
         assert_eq!(rt; next_field(order(), 55), Ok(Next::More(first)));
-        assert!(rt; first.content(order()) == b"T1");
+        assert!(rt; first.content(order()) == b"T1".as_slice());
         assert_eq!(rt; first.behind(), 63);
         let second = Field {
             tag: tag(b'3', b'2', Some(b'A')),
@@ -168,7 +168,7 @@ mod tests {
             len: 2,
         };
         assert_eq!(rt; next_field(order(), 63), Ok(Next::More(second)));
-        assert!(rt; second.content(order()) == b"1,");
+        assert!(rt; second.content(order()) == b"1,".as_slice());
         assert_eq!(rt; second.behind(), 72);
         assert_eq!(rt; next_field(order(), 72), Ok(Next::End { hyphen: 72 }));
     }
@@ -182,7 +182,7 @@ mod tests {
             len: 6,
         };
         assert_eq!(rt; next_field(lines(), 0), Ok(Next::More(three)));
-        assert!(rt; three.content(lines()) == b"A\r\n\r\nB");
+        assert!(rt; three.content(lines()) == b"A\r\n\r\nB".as_slice());
         assert_eq!(rt; three.behind(), 12);
         let none = Field {
             tag: tag(b'2', b'0', None),
@@ -200,7 +200,7 @@ mod tests {
             len: 2,
         };
         assert_eq!(rt; next_field(lines(), 18), Ok(Next::More(colon)));
-        assert!(rt; colon.content(lines()) == b":C");
+        assert!(rt; colon.content(lines()) == b":C".as_slice());
         assert_eq!(rt; next_field(lines(), 26), Ok(Next::End { hyphen: 26 }));
     }
 
@@ -251,7 +251,7 @@ mod tests {
             content_at: 72,
             len: usize::MAX,
         };
-        assert!(rt; field.content(order()) == b"-}");
+        assert!(rt; field.content(order()) == b"-}".as_slice());
         assert_eq!(rt; field.behind(), usize::MAX);
         let far = Field {
             tag: tag(b'2', b'0', None),

@@ -10,7 +10,8 @@ use crate::fault::Fault;
 // The most bytes that a text may have.
 pub const MAX_TEXT: usize = 10_000;
 
-// The byte at a place, or 0 past the end: no rule asks for a 0.
+// The byte at a place, or 0 past the end. No rule asks for a 0, so that whatever is asked of a byte that
+// is not there is false, with no case of its own.
 pub fn byte_at(text: &[u8], at: usize) -> u8
     ensures { result ≡ slice_index text.now at }
 {

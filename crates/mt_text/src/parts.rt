@@ -8,15 +8,13 @@ ghost use Rattle.std.specs.Prelude.{◌≡◌, take, drop};
 pub fn part(text: &[u8], at: usize, len: usize) -> &[u8]
     ensures { result.now ≡ take len (drop at text.now) }
 {
-    let start = at.min(text.len());
-    let len = len.min(text.len() - start);
-    &text[start..start + len]
+    let rest = rest(text, at);
+    &rest[..len.min(rest.len())]
 }
 
 // All bytes from an offset on.
 pub fn rest(text: &[u8], at: usize) -> &[u8]
     ensures { result.now ≡ drop at text.now }
 {
-    let start = at.min(text.len());
-    &text[start..text.len()]
+    &text[at.min(text.len())..]
 }

@@ -32,12 +32,12 @@ fn take_field<'a, 'r, M: Module>(
     ensures { stepped result ≡ forward M.Module.meaning text.now field (seek field.tag walk.entry.count walk.entry.rows.now) }
 {
     let (format, walk) = walk.take(field)?;
-    match module.read(format, field.content(text)) {
-        Some(values) => Ok((walk, values)),
-        None => Err(Fault::Content {
+    let values = module
+        .read(format, field.content(text))
+        .ok_or(Fault::Content {
             at: field.content_at,
-        }),
-    }
+        })?;
+    Ok((walk, values))
 }
 
 // Walks over the rows field by field, and gathers what the fields tell.
