@@ -32,7 +32,7 @@ fn references(rt: HostRuntime) {
 
 #[test]
 fn short_buffers(rt: HostRuntime) -> Result<(), Fail> {
-    let reference = Reference::read(b"ABCDEFGHIJ").ok_or(Fail::new("no reference"))?;
+    let reference = Reference::read(b"ABCDEFGHIJ").ok_or("no reference")?;
     let mut short = [b'#'; 9];
     assert!(rt; matches!(reference.write(&mut short), Err(Fault::ShortBuffer)));
     assert!(rt; short == [b'#'; 9]);
@@ -89,7 +89,7 @@ fn numbers_of_states(rt: HostRuntime) {
 #[test]
 fn replayed(rt: HostRuntime) -> Result<(), Fail> {
     let entry = cell::<Number, Statement>()?;
-    let other = Number::new(7).ok_or(Fail::new("no number"))?;
+    let other = Number::new(7).ok_or("no number")?;
     let mut cells = [entry; 16];
     let mut book = Shares::over(&mut cells);
     let record = entry.record;

@@ -126,7 +126,7 @@ pub fn play<K: SampleKey, R: SampleRecord, B: Book<Word = K, Record = R>>(
 
 // A cell to begin with; what it holds must not matter.
 pub fn cell<K: SampleKey, R: SampleRecord>() -> Result<Entry<K, R>, Fail> {
-    let key = K::sample(0).ok_or(Fail::new("no sample"))?;
+    let key = K::sample(0).ok_or("no sample")?;
     Ok(Entry {
         key,
         record: R::sample(77),
