@@ -47,7 +47,7 @@ fn is_sign(b: u8) -> bool
     matches!(b, b'+' | b'-')
 }
 
-// Whether the bytes are a stamp: date, time, sign and time.
+// Whether the bytes are a stamp: date, time, sign and time. The parts have fixed places, so that ranges cut them out.
 fn is_stamp(stamp: &[u8]) -> bool
     ensures { result ≡ is_stamp stamp.now }
 {

@@ -39,7 +39,7 @@ fn is_rest(bytes: &[u8]) -> bool
             || next_line(bytes).is_some_and(|information| is_line(34, information)))
 }
 
-// Whether the bytes may stand behind the amount.
+// Whether the bytes may stand behind the amount: a type of four bytes, at a fixed place, and the rest.
 pub(crate) fn is_behind(bytes: &[u8]) -> bool
     ensures { result ≡ is_behind bytes.now }
 {

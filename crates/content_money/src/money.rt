@@ -18,7 +18,8 @@ pub struct Money {
     pub hundredths: u64,
 }
 
-// Date, currency and amount, be it zero.
+// Date, currency and amount, be it zero. The first two have fixed places, so that ranges cut them out
+// behind one test of the length.
 pub(crate) fn read_dated(currency: [u8; 3], content: &[u8]) -> Option<Money>
     ensures { result ≡ dated_of currency content.now }
 {

@@ -94,8 +94,9 @@ fn is_output_header(block: &[u8]) -> bool
     is_origin(&block[7..49]) && is_end(&block[49..51])
 }
 
-// The type of the message that a block 2 tells: its three digits, each by its name, where a loop would
-// be no shorter and would have to say that the sum stays small.
+// The type of the message that a block 2 tells: its three digits, each by its name. A loop would be no
+// shorter and would have to say that the sum stays small; `read_number` would answer an Option of 64
+// bits, here never none, to be cast down.
 fn type_of(block: &[u8]) -> u16
     requires long { 7 ≤ length block.now }
     requires digits { every digit (cut 4 7 block.now) ≡ true }

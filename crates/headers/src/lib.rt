@@ -1,4 +1,5 @@
-//! Blocks 1, 2, 3 and 5 of a text: the headers and the trailer.
+//! Blocks 1, 2, 3 and 5 of a text: the headers and the trailer. All but block 3 have their parts at fixed
+//! places, so that ranges cut them out behind one test of the length.
 #![tactic(auto)]
 
 mod application;
