@@ -4,7 +4,8 @@ use books::{Book, Entry};
 use mt_text::Fault;
 use std::test::Fail;
 
-// A call on an account, by the numbers of its key and record, with its answer.
+// A call on an account, by the numbers of its key and record, with its answer. An enum and no closure,
+// since a script is a list of calls.
 #[derive(Clone, Copy)]
 pub enum Step {
     // put (account, key, record): done

@@ -60,8 +60,8 @@ fn content_end(text: &[u8], mut line: usize, mut from: usize) -> Result<usize, F
     Err(Fault::Line { at: line })
 }
 
-// What begins with the line at an offset of a text, from which all offsets count: a field, or the end. Refuses a line that is not as it must
-// be by 5, where that line stands.
+// What begins with the line at an offset of a text, from whose start all offsets count: a field, or the
+// end. Refuses a line that is not as it must be by 5, where that line stands.
 pub fn next_field(text: &[u8], at: usize) -> Result<Next, Fault>
     ensures { told result ≡ next_at at (drop at text.now) }
 {
