@@ -1,13 +1,7 @@
 use Rattle.std.proofs.Common.{◌≡◌, take, drop, sym, ap, ◌∙◌}
-use Rattle.std.proofs.lemmas.Bool.{cond-false}
 use Rattle.books.specs.References.{word_of}
 use Rattle.books.proofs.Packing.{cut_at_eight, kept_in_parts, read_of}
 use Rattle.books.proofs.reference.Reference.read.Goals as goal
-
-pub returns-then-not-is_reference : goal.returns-then-not-is_reference
-returns-then-not-is_reference c =
-    let f = sym c.if-not-is_reference.ensures in
-    record { value = sym (cond-false _ _ _ f); says = sym (cond-false _ _ _ f); gives = sym (cond-false _ _ _ f) }
 
 pub returns : goal.returns
 returns c =
