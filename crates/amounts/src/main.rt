@@ -6,9 +6,9 @@ mod line;
 
 use contents::{MAX_AMOUNT, write_normal_amount};
 use fronts::Front;
-use line::{KEPT, amount};
+use line::{KEPT, amount, push};
 use std::io;
-use std::io::{BufReader, BufWriter, Read, Write};
+use std::io::{BufWriter, Read, Write};
 
 // How many lines were accepted and refused so far.
 #[derive(Drop)]
@@ -44,22 +44,40 @@ fn answer<W: Write + Drop>(
     }
 }
 
+// Takes in a part of the input, and answers each line that ends in it.
+fn take_in<W: Write + Drop>(
+    part: &[u8],
+    line: &mut Front<KEPT>,
+    tally: &mut Tally,
+    out: &mut BufWriter<W>,
+) -> io::Result<()> {
+    for b in part {
+        if *b == b'\n' {
+            answer(line, tally, out)?;
+            line.clear();
+        } else {
+            push(line, *b);
+        }
+    }
+    Ok(())
+}
+
 fn main(rt: HostRuntime) -> io::Result<()> {
-    let input = BufReader::new(rt.alloc(), rt.stdin())?;
+    let mut input = rt.stdin();
     let mut out = BufWriter::new(rt.alloc(), rt.stdout())?;
     let mut tally = Tally {
         accepted: 0,
         refused: 0,
     };
     let mut line = Front::new();
-    for b in input.bytes() {
-        let b = b?;
-        if b == b'\n' {
-            answer(&line, &mut tally, &mut out)?;
-            line.clear();
-        } else {
-            line.push(b);
+    // a chunk on the stack: a buffered reader would allocate, and hand out each byte by a call of its own
+    let mut chunk = [0u8; 4096];
+    for _ in 0..u64::MAX {
+        let len = input.read(&mut chunk)?;
+        if len == 0 {
+            break;
         }
+        take_in(&chunk[..len], &mut line, &mut tally, &mut out)?;
     }
     if !line.is_empty() {
         answer(&line, &mut tally, &mut out)?;

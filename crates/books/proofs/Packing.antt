@@ -1,9 +1,9 @@
 -- Bytes in words, and what references say.
-use Rattle.std.specs.Prelude.{◌≡◌, ℕ, zero, suc, ◌+◌, ◌*◌, ◌/◌, ◌%◌, ◌^◌, ◌<◌, ◌≤◌, min, Bool, ◌&&◌, true, false, List, [], ◌∷◌, ◌++◌, length, take, drop, Some, ◌==◌, refl}
-use Rattle.std.proofs.Common.{sym, ap, ◌∙◌, inl, inr, arith}
+use Rattle.std.specs.Prelude.{◌≡◌, ℕ, zero, suc, ◌+◌, ◌-◌, ◌*◌, ◌/◌, ◌%◌, ◌^◌, ◌<◌, ◌≤◌, min, Bool, ◌&&◌, true, false, List, [], ◌∷◌, ◌++◌, length, take, drop, Some, ◌==◌, slice_index, refl}
+use Rattle.std.proofs.Common.{sym, ap, subst, ◌∙◌, inl, inr, arith, lit<}
 use Rattle.std.proofs.Math.Nat.{pow-le-pow_right}
 use Rattle.std.proofs.lemmas.Nat.{pow-add, shr-shr, div-mul-add, mod-mul-add}
-use Rattle.std.proofs.lemmas.List.{take_all, drop_all}
+use Rattle.std.proofs.lemmas.List.{at_drop_more, at_drop_all, take_all, drop_all}
 use Rattle.std.proofs.lemmas.Bool.{cases_lt, and_parts, and_from, eqb-true, eq-eqb, cond-true}
 use Rattle.std.proofs.lemmas.Bool.Decides.{nat_tests}
 use Rattle.mt_text.specs.Classes.{every, printable}
@@ -148,7 +148,19 @@ read_of bs r h e = record {
   gives = ap (λ x. Some (spelled x)) e ∙ ap Some (spelled_kept bs h) ∙ sym (cond-true _ _ _ h);
 }
 
--- ---- a byte more in a word
+-- ---- the steps of packing, from the last byte to the first
+
+pub word_more : (bs : List ℕ) (i : ℕ) → i < length bs → word_of (drop i bs) ≡ word_of (drop (i + 1) bs) * 256 + slice_index bs i
+word_more bs i h = at_drop_more word_of bs i 0 h
+
+pub word_none : (bs : List ℕ) (i : ℕ) → length bs ≤ i → word_of (drop i bs) ≡ 0
+word_none bs i h = at_drop_all word_of bs i h
+
+pub none_packed : (bs : List ℕ) → (0 ≡ word_of (drop (length bs) bs)) × (0 < 256 ^ (length bs - length bs))
+none_packed bs =
+    let n : length bs - length bs ≡ 0 = omega arith in
+    let P : ℕ → Type 0 = λ m. 0 < 256 ^ m in
+    (sym (word_none bs (length bs) (omega arith)), subst P (sym n) (lit< tt))
 
 pub below_more : (w k b : ℕ) → w < 256 ^ k → b < 256 → w * 256 + b < 256 ^ (k + 1)
 below_more w k b h l = let e : 256 ^ (k + 1) ≡ 256 ^ k * 256 = pow-add 256 k 1 in omega arith
@@ -157,6 +169,16 @@ pub below_word : (w k b : ℕ) → w < 256 ^ k → k < 8 → b < 256 → w * 256
 below_word w k b h l m =
     let p : 256 ^ (k + 1) ≤ 256 ^ 8 = (let q : k + 1 ≤ 8 = omega arith in pow-le-pow_right (omega arith) q) in
     omega (arith, below_more w k b h m)
+
+-- the byte before those packed
+pub packed_more : (bs : List ℕ) (i w b : ℕ) → 0 < i → i ≤ length bs → b ≡ slice_index bs (i - 1) → b < 256 → w ≡ word_of (drop i bs) → w < 256 ^ (length bs - i)
+    → (w * 256 + b ≡ word_of (drop (i - 1) bs)) × (w * 256 + b < 256 ^ (length bs - (i - 1)))
+packed_more bs i w b p l e k h m =
+    let n : i - 1 + 1 ≡ i = omega arith in
+    let t : length bs - i + 1 ≡ length bs - (i - 1) = omega arith in
+    let P : ℕ → Type 0 = λ x. w * 256 + b < 256 ^ x in
+    let v : w ≡ word_of (drop (i - 1 + 1) bs) = h ∙ ap (λ x. word_of (drop x bs)) (sym n) in
+    ((λ j. v j * 256 + e j) ∙ sym (word_more bs (i - 1) (omega arith)), subst P t (below_more w (length bs - i) b m k))
 
 -- a word's bytes by its quotients
 pub bytes_by_quotients : (w : ℕ) → bytes_of 8 w ≡ (w % 256) ∷ (w / 256 % 256) ∷ (w / 65536 % 256) ∷ (w / 16777216 % 256) ∷ (w / 4294967296 % 256) ∷ (w / 1099511627776 % 256) ∷ (w / 281474976710656 % 256) ∷ (w / 72057594037927936 % 256) ∷ []

@@ -27,10 +27,12 @@ fn packed(bytes: &[u8]) -> u64
     ensures word { result ≡ word_of bytes.now }
     ensures below { result < 256 ^ length bytes.now }
 {
-    match bytes {
-        [] => 0,
-        [first, rest @ ..] => packed(rest) * 256 + u64::from(*first),
+    // from the last byte to the first, by index: a call for each byte of a slice pattern is many times slower
+    let mut word = 0;
+    for i in (0..bytes.len()).rev() {
+        word = word * 256 + u64::from(bytes[i]);
     }
+    word
 }
 
 fn is_reference(bytes: &[u8]) -> bool

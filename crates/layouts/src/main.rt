@@ -18,10 +18,10 @@ mod kept;
 
 use escape::Escape;
 use fronts::Front;
-use kept::{KEPT, whole_layout};
+use kept::{KEPT, push, whole_layout};
 use layout::Layout;
 use std::io;
-use std::io::{BufReader, BufWriter, Read, Write};
+use std::io::{BufWriter, Read, Write};
 
 // What a line is.
 #[derive(Clone, Copy, PartialEq, Eq)]
@@ -51,6 +51,15 @@ impl Line {
         self.form == Form::Text(Escape::Out) && self.text.is_empty()
     }
 
+    // One byte more of a text whose last escape has come so far.
+    fn push(&mut self, escape: Escape, b: u8) {
+        let (escape, byte) = escape.step(b);
+        self.form = Form::Text(escape);
+        if let Some(byte) = byte {
+            push(&mut self.text, byte);
+        }
+    }
+
     fn clear(&mut self) {
         self.form = Form::Text(Escape::Out);
         self.text.clear();
@@ -78,36 +87,42 @@ fn answer<W: Write + Drop>(line: &Line, out: &mut BufWriter<W>) -> io::Result<()
     }
 }
 
-// Takes in one byte more of the line. Those of a comment are printed as they are.
-fn take_in<W: Write + Drop>(b: u8, line: &mut Line, out: &mut BufWriter<W>) -> io::Result<()> {
-    if b == b'#' && line.is_new() {
-        line.form = Form::Comment;
-    }
-    match line.form {
-        Form::Comment => out.write_all(&[b]),
-        Form::Text(escape) => {
-            let (escape, byte) = escape.step(b);
-            line.form = Form::Text(escape);
-            if let Some(byte) = byte {
-                line.text.push(byte);
-            }
-            Ok(())
+// Takes in a part of the input, and answers each line that ends in it. The bytes of a comment are printed
+// as they are.
+fn take_in<W: Write + Drop>(
+    part: &[u8],
+    line: &mut Line,
+    out: &mut BufWriter<W>,
+) -> io::Result<()> {
+    for b in part {
+        if *b == b'\n' {
+            answer(line, out)?;
+            line.clear();
+            continue;
+        }
+        if *b == b'#' && line.is_new() {
+            line.form = Form::Comment;
+        }
+        match line.form {
+            Form::Comment => out.write_all(&[*b])?,
+            Form::Text(escape) => line.push(escape, *b),
         }
     }
+    Ok(())
 }
 
 fn main(rt: HostRuntime) -> io::Result<()> {
-    let input = BufReader::new(rt.alloc(), rt.stdin())?;
+    let mut input = rt.stdin();
     let mut out = BufWriter::new(rt.alloc(), rt.stdout())?;
     let mut line = Line::new();
-    for b in input.bytes() {
-        let b = b?;
-        if b == b'\n' {
-            answer(&line, &mut out)?;
-            line.clear();
-        } else {
-            take_in(b, &mut line, &mut out)?;
+    // a chunk on the stack: a buffered reader would allocate, and hand out each byte by a call of its own
+    let mut chunk = [0u8; 4096];
+    for _ in 0..u64::MAX {
+        let len = input.read(&mut chunk)?;
+        if len == 0 {
+            break;
         }
+        take_in(&chunk[..len], &mut line, &mut out)?;
     }
     if !line.is_new() {
         answer(&line, &mut out)?;

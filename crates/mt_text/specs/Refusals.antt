@@ -1,5 +1,5 @@
 -- The refusals: what each case of `Fault` says, as a number and an offset.
-use Rattle.std.specs.Prelude.{ℕ, Some, None, Ok, Err, Option, Result}
+use Rattle.std.specs.Prelude.{ℕ, List, ◌++◌, codes, decimal, Some, None, Ok, Err, Option, Result}
 use Rattle.mt_text.specs.declared.fault.Fault.{Fault}
 use Rattle.mt_text.specs.declared.fault.Fault.TheVariants.{Length, Byte, Block, UnknownType, Line, FieldCount, Tag, Missing, Content, Balance, NoAccount, WrongCall, OtherAccount, ShortBuffer, BadArgument, ReferenceTaken, RoomFull, NoOrder, OrderRefuses, NumberGap, OpeningDiffers}
 
@@ -36,6 +36,11 @@ refusal_of NoOrder = refusal 18 None
 refusal_of OrderRefuses = refusal 19 None
 refusal_of NumberGap = refusal 20 None
 refusal_of OpeningDiffers = refusal 21 None
+
+-- how a refusal is printed: `refused 3 at 29`, or `refused 14` where it has no offset
+abbrev pub printed : Refusal → List ℕ
+printed (refusal n (Some at)) = codes "refused " ++ (decimal n ++ (codes " at " ++ decimal at))
+printed (refusal n None) = codes "refused " ++ decimal n
 
 -- a call's answer, its refusal told by number and offset
 abbrev pub told : {X : Type 0} → Result X Fault → Result X Refusal

@@ -1,6 +1,6 @@
 //! The refusals: one enum for every call, each case with its number and, where it has one, its offset.
-ghost use Rattle.std.specs.Prelude.{◌≡◌};
-ghost use Rattle.mt_text.specs.Refusals.{refusal_of, number_of, offset_of};
+ghost use Rattle.std.specs.Prelude.{◌≡◌, Some};
+ghost use Rattle.mt_text.specs.Refusals.{refusal_of, number_of, offset_of, printed};
 
 use std::error::Error;
 use std::fmt;
@@ -105,6 +105,8 @@ impl Fault {
 
 // As the programs print a refusal: `refused 3 at 29`, or `refused 14` where the cause has no offset.
 impl fmt::Display for Fault {
+    ghost output = { λ f. Some (printed (refusal_of f)) };
+
     fn fmt<W: fmt::Write>(&self, f: &mut fmt::Formatter<W>) -> fmt::Result {
         let number = self.number();
         match self.offset() {
