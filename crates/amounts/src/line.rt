@@ -9,7 +9,7 @@ use fronts::Front;
 pub const KEPT: usize = 16;
 
 // One byte more of the line; past the sixteenth it is let go.
-pub fn push(line: &mut Front<KEPT>, b: u8)
+pub fn keep(line: &mut Front<KEPT>, b: u8)
     ensures { line.new ≡ take 16 (line.old ++ b ∷ []) }
 {
     line.push(b);

@@ -6,7 +6,7 @@ mod line;
 
 use contents::{MAX_AMOUNT, write_normal_amount};
 use fronts::Front;
-use line::{KEPT, amount, push};
+use line::{KEPT, amount, keep};
 use std::io;
 use std::io::{BufWriter, Read, Write};
 
@@ -56,7 +56,7 @@ fn take_in<W: Write + Drop>(
             answer(line, tally, out)?;
             line.clear();
         } else {
-            push(line, *b);
+            keep(line, *b);
         }
     }
     Ok(())

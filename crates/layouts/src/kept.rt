@@ -11,7 +11,7 @@ use mt_text::Fault;
 pub const KEPT: usize = 10_001;
 
 // One byte more of the text; past the 10,001st it is let go.
-pub fn push(text: &mut Front<KEPT>, b: u8)
+pub fn keep(text: &mut Front<KEPT>, b: u8)
     ensures { text.new ≡ take 10001 (text.old ++ b ∷ []) }
 {
     text.push(b);

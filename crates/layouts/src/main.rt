@@ -18,7 +18,7 @@ mod kept;
 
 use escape::Escape;
 use fronts::Front;
-use kept::{KEPT, push, whole_layout};
+use kept::{KEPT, keep, whole_layout};
 use layout::Layout;
 use std::io;
 use std::io::{BufWriter, Read, Write};
@@ -52,11 +52,11 @@ impl Line {
     }
 
     // One byte more of a text whose last escape has come so far.
-    fn push(&mut self, escape: Escape, b: u8) {
+    fn step(&mut self, escape: Escape, b: u8) {
         let (escape, byte) = escape.step(b);
         self.form = Form::Text(escape);
         if let Some(byte) = byte {
-            push(&mut self.text, byte);
+            keep(&mut self.text, byte);
         }
     }
 
@@ -105,7 +105,7 @@ fn take_in<W: Write + Drop>(
         }
         match line.form {
             Form::Comment => out.write_all(&[*b])?,
-            Form::Text(escape) => line.push(escape, *b),
+            Form::Text(escape) => line.step(escape, *b),
         }
     }
     Ok(())

@@ -1,4 +1,4 @@
-use Rattle.layouts.proofs.kept.push.Goals as goal
+use Rattle.layouts.proofs.kept.keep.Goals as goal
 
 pub returns : goal.returns
 returns c = c.push.ensures
